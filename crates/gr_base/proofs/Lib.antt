@@ -1,0 +1,5 @@
+pub mod ListLemmas
+pub mod ForestLemmas
+pub mod Counting
+pub mod OrderedPairs
+pub mod RisingKeys

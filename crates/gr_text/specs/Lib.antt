@@ -1,0 +1,4 @@
+pub mod Places
+pub mod Cursors
+pub mod Words
+pub mod Decimals

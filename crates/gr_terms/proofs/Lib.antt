@@ -1,0 +1,4 @@
+pub mod BagLemmas
+pub mod NetworkLemmas
+pub mod AdditionLemmas
+pub mod ViewLemmas

@@ -1,0 +1,20 @@
+use Rattle.gr_terms.proofs.BagLemmas.{FitsAt-lacks, IsListed-insert, StandsAt-has}
+use Rattle.gr_terms.proofs.bag.Bag.add.Goals as goal
+
+pub invariant_of-self-in-Err : goal.invariant_of-self-in-Err
+invariant_of-self-in-Err c =
+    let fits = rw c.deref.ensures.value at c.in-Err.ensures in
+    rw c.in_ok-insert-in-Err.ensures.items (IsListed-insert _ _ _ _ c.self.invariant fits)
+
+pub returns-in-Ok-clause-there : goal.returns-in-Ok-clause-there
+returns-in-Ok-clause-there c =
+    let stands = rw c.deref.ensures.value at c.in-Ok.ensures in
+    rw (← c.self.view_is) (StandsAt-has _ _ _ stands)
+
+pub returns-in_ok-insert-in-Err-clause-absent : goal.returns-in_ok-insert-in-Err-clause-absent
+returns-in_ok-insert-in-Err-clause-absent c =
+    let fits = rw c.deref.ensures.value at c.in-Err.ensures in
+    rw (← c.self.view_is) (FitsAt-lacks _ _ _ fits)
+
+pub returns-in_ok-insert-in-Err-clause-listed : goal.returns-in_ok-insert-in-Err-clause-listed
+returns-in_ok-insert-in-Err-clause-listed c = invariant_of-self-in-Err c

@@ -1,0 +1,9 @@
+pub mod Constants
+pub mod Networks
+pub mod Views
+pub mod Bags
+pub mod BagViews
+pub mod Interpretations
+pub mod Additions
+pub mod Canonical
+pub mod LiteralViews

@@ -1,0 +1,103 @@
+//! Bags of attributes and values.
+ghost use Rattle.std.specs.Prelude.{◌≡◌, ◌<◌, ◌≤◌, [], length, IfOk, OnErr, MatchOption, MatchResult, slice_get};
+ghost use Rattle.std.specs.Bool.{OnTrue, OnFalse};
+ghost use Rattle.gr_base.specs.Lists.{IsAmong};
+ghost use Rattle.gr_terms.specs.Bags.{IsListed, HasAttribute, LacksAttribute, Puts, StandsAt, FitsAt};
+
+use crate::{Memory, Sym, Term};
+use std::alloc::Global;
+use std::marker::Model;
+
+/// Attributes with their values, seen as a list of pairs by rising attribute, each once.
+#[derive(Drop)]
+pub struct Bag {
+    pairs: Vec<(Sym, Term)>,
+}
+
+impl Model for Bag {
+    ghost use Rattle.std.specs.Prelude.{List};
+    ghost use Rattle.gr_terms.specs.declared.Sym.{Sym};
+    ghost use Rattle.gr_terms.specs.declared.Term.{Term};
+
+    ghost Value = { List (Sym × Term) };
+
+    ghost use Rattle.gr_terms.specs.Bags.{IsListed};
+
+    ghost view = { λ b. b.pairs.items };
+
+    ghost invariant = { λ b. IsListed b.pairs.items };
+}
+
+/// Where an attribute stands, or else where a pair with it would keep the order.
+fn find(pairs: &[(Sym, Term)], attr: Sym) -> Result<usize, usize>
+    requires { IsListed pairs.now }
+    ensures { MatchResult result (StandsAt pairs.now attr) (FitsAt pairs.now attr) }
+{
+    for (place, pair) in pairs.iter().enumerate() {
+        if pair.0.0 > attr.0 {
+            return Err(place);
+        }
+        if pair.0.0 == attr.0 {
+            return Ok(place);
+        }
+    }
+    Err(pairs.len())
+}
+
+impl Bag {
+    /// The empty bag, which takes no memory.
+    pub fn new(alloc: Global) -> Bag
+        ensures { result ≡ [] }
+    {
+        Bag {
+            pairs: Vec::new(alloc),
+        }
+    }
+
+    /// Puts a pair in, and says `false`, with the bag unchanged, where the attribute is there
+    /// already. Without memory the bag stays as it was.
+    pub fn add(&mut self, attr: Sym, value: Term) -> Result<bool, Memory>
+        ensures absent { IfOk result (λ added. OnTrue added (LacksAttribute self.old attr)) }
+        ensures added { IfOk result (λ added. OnTrue added (Puts self.old self.new (attr, value))) }
+        ensures there { IfOk result (λ added. OnFalse added (HasAttribute self.old attr)) }
+        ensures same { IfOk result (λ added. OnFalse added (self.new ≡ self.old)) }
+        ensures err { OnErr result (self.new ≡ self.old) }
+        ensures listed { IsListed self.new }
+    {
+        match find(&self.pairs, attr) {
+            Ok(_) => Ok(false),
+            Err(place) => {
+                self.pairs.insert(place, (attr, value))?;
+                Ok(true)
+            }
+        }
+    }
+
+    /// The value of an attribute, or `None` where no pair has it.
+    pub fn get(&self, attr: Sym) -> Option<Term>
+        ensures value { MatchOption result (LacksAttribute self.now attr) (λ v. IsAmong self.now (attr, v)) }
+        ensures listed { IsListed self.now }
+    {
+        match find(&self.pairs, attr) {
+            Ok(place) => Some(self.pairs[place].1),
+            Err(_) => None,
+        }
+    }
+
+    /// The number of pairs.
+    pub fn len(&self) -> usize
+        ensures number { result ≡ length self.now }
+        ensures listed { IsListed self.now }
+    {
+        self.pairs.len()
+    }
+
+    /// The pair at a place, counted from 0.
+    pub fn at(&self, place: usize) -> &(Sym, Term)
+        requires { place < length self.now }
+        ensures pair { slice_get self.now place ≡ Some result.now }
+        ensures listed { IsListed self.now }
+    {
+        &self.pairs[place]
+    }
+}

@@ -1,0 +1,60 @@
+-- What callers cite of numbers and texts: one number for a text, one text for a number, and numbers that stay as the texts grow.
+use Rattle.std.specs.Prelude.{◌≡◌, ℕ, ◌<◌, Bool, true, false, List, [], ◌++◌, ◌⊎◌, ◌↔◌, length}
+use Rattle.std.specs.List.{list_any}
+use Rattle.std.specs.Str.{bytes_eq}
+use Rattle.std.proofs.Common.{inl, inr, refl, ap, sym, ◌∙◌, subst, append_assoc}
+use Rattle.std.proofs.lemmas.List.{append-nil}
+use Rattle.std.proofs.lemmas.Option.{same_Some, slice_get_within}
+use Rattle.std.proofs.lemmas.Bool.{false≢true}
+use Rattle.std.proofs.lemmas.Slice.Eq.{bytes_eq-Decides}
+use Rattle.gr_base.specs.Lists.{IsAmong, NoneTwice}
+use Rattle.gr_symbols.specs.Numbers.{Names, Grows}
+use Rattle.gr_base.proofs.ListLemmas.{IsAmong-list_any, list_any-IsAmong, IsAmong-slice_get, slice_get-IsAmong, one_place, slice_get-append_left}
+
+-- a text has one number
+pub one_number : (texts : List (List ℕ)) (a b : ℕ) (t : List ℕ) → NoneTwice texts → Names texts a t → Names texts b t → a ≡ b
+one_number texts a b t once at at' = one_place texts a b t once at at'
+
+-- a number has one text
+pub one_text : (texts : List (List ℕ)) (a : ℕ) (t u : List ℕ) → Names texts a t → Names texts a u → t ≡ u
+one_text texts a t u at at' = same_Some t u (sym at ∙ at')
+
+-- equal numbers are just those of equal texts
+pub numbers_tell_texts_apart : (texts : List (List ℕ)) (m n : ℕ) (t u : List ℕ) → NoneTwice texts → Names texts m t → Names texts n u → (m ≡ n) ↔ (t ≡ u)
+numbers_tell_texts_apart texts m n t u once at at' = (
+  λ e. one_text texts n t u (subst (λ k. Names texts k t) e at) at',
+  λ e. one_number texts m n u once (subst (λ v. Names texts m v) e at) at',
+)
+
+-- a text keeps its number
+pub Names-grows : (old new : List (List ℕ)) (n : ℕ) (t : List ℕ) → Names old n t → Grows old new → Names new n t
+Names-grows old new n t at grows =
+    subst (λ texts. Names texts n t) (sym grows.1) (slice_get-append_left old grows.0 n t at)
+
+-- a number is below the number of texts
+pub Names-within : (texts : List (List ℕ)) (n : ℕ) (t : List ℕ) → Names texts n t → n < length texts
+Names-within texts n t at = slice_get_within texts n t at
+
+-- just the texts that are there have a number
+pub IsAmong-Names : (texts : List (List ℕ)) (n : ℕ) (t : List ℕ) → Names texts n t → IsAmong texts t
+IsAmong-Names texts n t at = IsAmong-slice_get texts n t at
+
+pub Names-IsAmong : (texts : List (List ℕ)) (t : List ℕ) → IsAmong texts t → (n : ℕ) × Names texts n t
+Names-IsAmong texts t i = slice_get-IsAmong texts t i
+
+-- a text has a number or it isn't there
+pub named_or_absent : (texts : List (List ℕ)) (t : List ℕ) → ((n : ℕ) × Names texts n t) ⊎ (IsAmong texts t → ⊥)
+named_or_absent texts t = by (list_any (bytes_eq t) texts) refl
+  where
+    by : (b : Bool) → list_any (bytes_eq t) texts ≡ b → ((n : ℕ) × Names texts n t) ⊎ (IsAmong texts t → ⊥)
+    by true e =
+        let r = IsAmong-list_any (bytes_eq t) texts e in
+        inl (Names-IsAmong texts t (subst (λ u. IsAmong texts u) (sym ((bytes_eq-Decides t r.0).0 r.2)) r.1))
+    by false e = inr (λ i. false≢true (sym e ∙ list_any-IsAmong (bytes_eq t) texts t i ((bytes_eq-Decides t t).1 refl)))
+
+-- a numbering begins with itself, and with what the one that it begins with begins with
+pub Grows-refl : (texts : List (List ℕ)) → Grows texts texts
+Grows-refl texts = ([], sym (append-nil texts))
+
+pub Grows-trans : (old next new : List (List ℕ)) → Grows old next → Grows next new → Grows old new
+Grows-trans old next new g h = (g.0 ++ h.0, h.1 ∙ ap (λ texts. texts ++ h.0) g.1 ∙ append_assoc old g.0 h.0)

@@ -1,0 +1,11 @@
+pub mod IndexLemmas
+pub mod Walks
+pub mod Members
+pub mod Keeping
+pub mod Solutions
+pub mod Trails
+pub mod History
+pub mod States
+pub mod Growth
+pub mod RingLemmas
+pub mod Values

@@ -1,0 +1,7 @@
+pub mod Contents
+pub mod Rings
+pub mod Index
+pub mod Roots
+pub mod Solution
+pub mod State
+pub mod Trail

@@ -1,0 +1,15 @@
+pub mod Fronts
+pub mod Exact
+pub mod Loops
+pub mod Alike
+pub mod Deep
+pub mod Places
+pub mod WordsSystem
+pub mod OneTree
+pub mod Readings
+pub mod Cuts
+pub mod Answers
+pub mod BalancedSystem
+pub mod Runs
+pub mod EveryRun
+pub mod Total

@@ -1,0 +1,5 @@
+pub mod Grammars
+pub mod Depths
+pub mod Words
+pub mod Readings
+pub mod Balanced

@@ -1,0 +1,10 @@
+pub mod Openers
+pub mod Runs
+pub mod WordFronts
+pub mod StringFronts
+pub mod Signs
+pub mod Steps
+pub mod OneAnswer
+pub mod SomeAnswer
+pub mod SpanLemmas
+pub mod TextLemmas

@@ -1,0 +1,4 @@
+pub mod Tokens
+pub mod Answers
+pub mod Fronts
+pub mod Spans

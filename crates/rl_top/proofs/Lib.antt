@@ -1,0 +1,16 @@
+pub mod Spelling
+pub mod Unparsing
+pub mod Steps
+pub mod Rows
+pub mod Naming
+pub mod Bagging
+pub mod FeatureLemmas
+pub mod OnceLaws
+pub mod Featuring
+pub mod Blocking
+pub mod WritingPairs
+pub mod WritingTexts
+pub mod WritingNodes
+pub mod WritingTrees
+pub mod WritingLaws
+pub mod Ending

@@ -5,6 +5,7 @@ pub mod Alike
 pub mod Deep
 pub mod Places
 pub mod WordsSystem
+pub mod WordTexts
 pub mod OneTree
 pub mod Readings
 pub mod Cuts

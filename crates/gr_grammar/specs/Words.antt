@@ -1,5 +1,5 @@
 -- An example of a counted grammar: words of at most 255 bytes. Part n is what may follow in a word with n bytes left. Class 0 is a word byte, and class 1 a dash, which stands right before a word byte.
-use Rattle.std.specs.Prelude.{ℕ, zero, suc, List, [], ◌∷◌, true, ◌==◌, not}
+use Rattle.std.specs.Prelude.{◌≡◌, ℕ, zero, suc, ◌≤◌, List, [], ◌∷◌, length, true, ◌==◌, not, ◌⊎◌, ⊤}
 use Rattle.gr_grammar.specs.Grammars.{Grammar, tok, nil, seq, alt, part, System}
 
 abbrev pub rests : ℕ → Grammar ℕ
@@ -18,3 +18,15 @@ words = record { test = λ c t. c == t; apart = λ c d. not (c == d); parts = re
 -- a word of at most 255 bytes
 abbrev pub word : Grammar ℕ
 word = seq (tok 0) (part 254)
+
+-- what such a word is: it begins with a word byte, its other bytes are word bytes and dashes that stand right before one, and it has at most 255
+abbrev pub BeginsWithWordByte : List ℕ → Type 0
+BeginsWithWordByte [] = ⊥
+BeginsWithWordByte (t ∷ ts) = t ≡ 0
+
+abbrev pub IsWordRest : List ℕ → Type 0
+IsWordRest [] = ⊤
+IsWordRest (t ∷ ts) = ((t ≡ 0) ⊎ ((t ≡ 1) × BeginsWithWordByte ts)) × IsWordRest ts
+
+abbrev pub IsShortWord : List ℕ → Type 0
+IsShortWord ts = BeginsWithWordByte ts × IsWordRest ts × (length ts ≤ 255)

@@ -6,7 +6,7 @@ ghost use Rattle.gr_grammar.specs.declared.brackets.Turn.TheVariants.{Neither};
 ghost use Rattle.gr_grammar.specs.Grammars.{Grammar, star, System, IsSystem, IsText, GoesOn, IsFault, Matches, Runs, End, took, failed, is_clear, begins, tree_of, items, Rounds, round_items};
 ghost use Rattle.gr_grammar.specs.Depths.{IsShallow, IsShallowFault, IsCut, shallow_len};
 ghost use Rattle.gr_grammar.specs.Readings.{IsReading, IsStop, IsStopBefore};
-ghost use Rattle.gr_grammar.specs.Words.{words, word};
+ghost use Rattle.gr_grammar.specs.Words.{words, word, IsShortWord};
 
 /// In a grammar where the next token decides, a front of the tokens that is a text has one tree.
 /// The tokens have to form a set, as bytes, numbers and structs of these do.
@@ -144,9 +144,10 @@ pub fn loop_runs<C, T, A>()
 {}
 
 /// The example of a counted grammar, in which a part for each number of tokens left is to keep a
-/// word to 255 of them, is a system whose next token decides; so the laws above hold of it. Nothing
-/// is said here of which lists are its texts.
+/// word to 255 of them, is a system whose next token decides; so the laws above hold of it. Its
+/// texts are just the words of at most 255 bytes.
 pub fn counted_words()
     ensures system { IsSystem words }
     ensures clear { is_clear words word ≡ true }
+    ensures texts { (ts : List ℕ) → (IsText words word ts ↔ IsShortWord ts) }
 {}

@@ -1,4 +1,4 @@
-//! Places in a text, names and their spelling, a cursor over bytes, words, and decimals.
+//! Places in a text, names and their spelling, a cursor over bytes, words, decimals, and budgets.
 //!
 //! `specs/Places` has lines and columns, `specs/Cursors` what a cursor is to its callers,
 //! `specs/Words` what a word is and how a name is spelled, and `specs/Decimals` what a decimal is.
@@ -6,8 +6,10 @@
 
 ghost use Rattle.std.specs.Prelude.{◌≡◌, ℕ, ◌<◌, ◌≤◌, ◌↔◌, List, [], ◌∷◌, ◌++◌, length, string_bytes, IsTrue, IsNone, IfSome, IfNone, IfOk, OnOk, OnErr, SomeIff};
 
+mod budget;
 pub mod laws;
 
+pub use crate::budget::Budget;
 pub use gr_base::Memory;
 use std::alloc::Global;
 use std::marker::Model;

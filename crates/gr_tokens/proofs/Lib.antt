@@ -8,3 +8,4 @@ pub mod OneAnswer
 pub mod SomeAnswer
 pub mod SpanLemmas
 pub mod TextLemmas
+pub mod Spellings

@@ -3,7 +3,9 @@ use Rattle.std.specs.Prelude.{◌≡◌, ℕ, ◌-◌, ◌<◌, ◌≤◌, List,
 use Rattle.gr_base.specs.Lists.{Each}
 use Rattle.gr_text.specs.Places.{place_after}
 use Rattle.gr_tokens.specs.declared.Token.{Token}
+use Rattle.gr_tokens.specs.declared.Kind.{Kind}
 use Rattle.gr_tokens.specs.Tokens.{Writes}
+use Rattle.gr_tokens.specs.Answers.{AreTokens}
 
 -- the bytes of the text between the token's ends
 abbrev pub slice_of : List ℕ → Token → List ℕ
@@ -22,3 +24,12 @@ pub record IsSliceOf (bytes : List ℕ) (t : Token) : Type 0 where
 abbrev pub InOrder : List Token → Type 0
 InOrder [] = ⊤
 InOrder (t ∷ ts) = Each (λ u. t.to ≤ u.from) ts × InOrder ts
+
+-- the token of this kind that is the whole of the bytes
+abbrev pub only_token : Kind → List ℕ → Token
+only_token kind bytes = record { kind = kind; from = 0; to = length bytes; place = record { line = 1; column = 1 } }
+
+-- the bytes are one token of this kind with this text, and nothing else
+pub record IsNameRead (kind : Kind) (text bytes : List ℕ) : Type 0 where
+  pub writes : Writes kind text bytes
+  pub tokens : AreTokens bytes (only_token kind bytes ∷ [])

@@ -15,6 +15,7 @@ ghost use Rattle.std.specs.Prelude.{◌≡◌, ◌≤◌, ◌⊎◌, length, IfO
 ghost use Rattle.gr_tokens.specs.Answers.{AreTokens, IsRefused};
 
 use crate::cut::cut;
+use gr_base::Memory;
 use gr_text::Place;
 use std::alloc::Global;
 use std::str;
@@ -73,6 +74,16 @@ pub enum ReadRefusal {
     TooManyInputs(Place),
     /// Want of memory.
     Memory,
+}
+
+impl From<Memory> for ReadRefusal {
+    ghost use Rattle.gr_tokens.specs.declared.ReadRefusal.TheVariants.{Memory as NoMemory};
+
+    ghost from_gives = { λ _ e. e ≡ NoMemory };
+
+    fn from(_memory: Memory) -> ReadRefusal {
+        ReadRefusal::Memory
+    }
 }
 
 /// The tokens of a text of at most 1,048,576 bytes, in order.

@@ -1,0 +1,9 @@
+pub mod Lexemes
+pub mod Classes
+pub mod Brackets
+pub mod Places
+pub mod Complaints
+pub mod Parts
+pub mod Fronts
+pub mod Files
+pub mod Levels

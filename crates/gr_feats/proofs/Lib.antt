@@ -1,0 +1,10 @@
+pub mod LoadLemmas
+pub mod MadeLemmas
+pub mod StayLemmas
+pub mod OneAnswer
+pub mod AnswerLemmas
+pub mod ReadingLemmas
+pub mod PassingLemmas
+pub mod GatherLemmas
+pub mod NumberingLemmas
+pub mod CanonicalLemmas

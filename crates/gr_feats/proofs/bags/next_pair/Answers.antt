@@ -1,0 +1,17 @@
+use Rattle.std.proofs.Common.{◌≡◌, Err, rules}
+use Rattle.gr_grammar.specs.Grammars.{run_both}
+use Rattle.gr_reader.proofs.Steps.{first_stops, then_stops, token_run, token_stops}
+use Rattle.gr_feats.proofs.bags.next_pair.Goals as goal
+
+pub returns-in_err-_comma-clause-reads : goal.returns-in_err-_comma-clause-reads
+returns-in_err-_comma-clause-reads c =
+    let e : c.from_residual.result ≡ Err c.in_err-_comma.field-0.0 = search rules in
+    rw e (first_stops (token_stops c.in_err-_comma.ensures.0 c.in_err-_comma.ensures.1))
+
+pub returns-in_err-next-clause-reads : goal.returns-in_err-next-clause-reads
+returns-in_err-next-clause-reads c =
+    let e : c.from_residual-in_err-next.result ≡ Err c.in_err-next.field-0.0 = search rules in
+    rw e (then_stops (token_run c.in_ok-_comma.ensures.took) c.in_err-next.ensures.reads)
+
+pub returns-clause-reads : goal.returns-clause-reads
+returns-clause-reads c = (run_both (token_run c.in_ok-_comma.ensures.took) c.in_ok-next.ensures.reads.0, c.in_ok-next.ensures.reads.1)

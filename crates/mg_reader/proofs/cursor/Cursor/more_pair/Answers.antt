@@ -1,0 +1,13 @@
+use Rattle.std.proofs.Common.{rules, ◌≡◌, Err}
+use Rattle.gr_grammar.specs.Grammars.{run_both}
+use Rattle.mg_reader.proofs.Steps.{first_stops, then_stops}
+use Rattle.mg_reader.proofs.cursor.Cursor.more_pair.Goals as goal
+
+pub returns-in_err-_comma : goal.returns-in_err-_comma
+returns-in_err-_comma c = let e : c.from_residual.result ≡ Err c.in_err-_comma.field-0.0 = search rules in rw e ((first_stops c.in_err-_comma.ensures))
+
+pub returns-in_err-pair : goal.returns-in_err-pair
+returns-in_err-pair c = let e : c.from_residual-in_err-pair.result ≡ Err c.in_err-pair.field-0.0 = search rules in rw e ((then_stops c.in_ok-_comma.ensures.0 c.in_err-pair.ensures))
+
+pub returns : goal.returns
+returns c = ((run_both c.in_ok-_comma.ensures.0 c.in_ok-pair.ensures.0), c.in_ok-pair.ensures.1)

@@ -1,0 +1,13 @@
+use Rattle.std.proofs.Common.{rules, ◌≡◌, Err, refl, sym, ◌∙◌}
+use Rattle.gr_grammar.specs.Grammars.{run_left, run_right, take_nothing}
+use Rattle.mg_reader.proofs.Steps.{left_stops}
+use Rattle.mg_reader.proofs.reader.Reader.perhaps_pairs.Goals as goal
+
+pub returns-in_err-pairs : goal.returns-in_err-pairs
+returns-in_err-pairs c = let e : c.from_residual.result ≡ Err c.in_err-pairs.field-0.0 = search rules in rw e (left_stops (sym c.sees.ensures ∙ c.if-sees.true) c.in_err-pairs.ensures)
+
+pub returns-in_ok-pairs : goal.returns-in_ok-pairs
+returns-in_ok-pairs c = (run_left (sym c.sees.ensures ∙ c.if-sees.true) c.in_ok-pairs.ensures.0, c.in_ok-pairs.ensures.1, c.in_ok-pairs.ensures.2)
+
+pub returns-else-sees : goal.returns-else-sees
+returns-else-sees c = (run_right (sym c.sees.ensures ∙ c.if-sees.false) take_nothing, c.new.ensures, refl)

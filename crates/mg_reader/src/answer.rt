@@ -1,0 +1,200 @@
+//! Reads a metagrammar from its bytes: tokens, lexemes, the grammar, complaints.
+ghost use Rattle.std.specs.Prelude.{◌≡◌, ◌+◌, ◌≤◌, ◌⊎◌, length, drop, IfOk, IfErr};
+ghost use Rattle.gr_base.specs.Lists.{Each};
+ghost use Rattle.gr_grammar.specs.Depths.{shallow_len};
+ghost use Rattle.gr_grammar.specs.Readings.{IsReading};
+ghost use Rattle.gr_reader.specs.Lexemes.{HasText, lexeme_of};
+ghost use Rattle.gr_symbols.specs.Numbers.{Grows};
+ghost use Rattle.gr_tokens.specs.Answers.{AreTokens};
+ghost use Rattle.gr_tokens.specs.Spans.{slice_of};
+ghost use Rattle.gr_tokens.specs.Tokens.{Writes};
+ghost use Rattle.mg_reader.specs.Answers.{IsMetagrammar, IsRefusal, place_of, reading_of};
+ghost use Rattle.mg_reader.specs.Grammar.{system, metagrammar_text};
+ghost use Rattle.mg_reader.specs.Kinds.{turn};
+ghost use Rattle.mg_reader.specs.Reading.{accepted};
+ghost use Rattle.mg_reader.specs.Lexemes.{EachIs, IsLexeme, kind_of, HasName};
+
+use crate::cursor::{Cursor, Stop};
+use crate::lexeme::{Kind, Lexeme};
+use crate::notes::{Attributes, Complaint};
+use crate::reader::Reader;
+use gr_base::Memory;
+use gr_grammar::brackets::depth_behind;
+use gr_reader::brackets::BRACKET_LIMIT;
+use gr_reader::places::end_place;
+use gr_reader::reader::text_of;
+use gr_symbols::Symbols;
+use gr_terms::{EMPTY, Sym};
+use gr_text::Place;
+use gr_tokens::{Kind as Cut, ReadRefusal, Token, tokens};
+use mg_syntax::Metagrammar;
+use std::alloc::Global;
+use std::str;
+
+/// The kind of a token with this text.
+fn kind_with(cut: Cut, text: &str) -> Kind
+    ensures { result ≡ kind_of cut text.now }
+{
+    match cut {
+        Cut::Word => Kind::of_word(text),
+        Cut::Str => Kind::Str,
+        Cut::Var => Kind::Var,
+        Cut::Punct => Kind::of_sign(text),
+    }
+}
+
+/// The name of a token with this text, which may be new to the table.
+fn name_with(cut: Cut, text: &str, symbols: &mut Symbols) -> Result<Sym, Memory>
+    ensures named { IfOk result (λ name. HasName symbols.new cut text.now name) }
+    ensures grows { Grows symbols.old symbols.new }
+    ensures few { length symbols.new ≤ length symbols.old + 1 }
+{
+    match cut {
+        Cut::Punct => Ok(EMPTY),
+        Cut::Word => symbols.intern(text),
+        Cut::Str => symbols.intern(text),
+        Cut::Var => symbols.intern(text),
+    }
+}
+
+/// The lexeme of a token.
+fn lexeme(bytes: &[u8], token: &Token, symbols: &mut Symbols) -> Result<Lexeme, Memory>
+    requires text { HasText bytes.now token.now }
+    requires written { Writes token.now.kind (lexeme_of bytes.now token.now).text (slice_of bytes.now token.now) }
+    ensures is { IfOk result (λ l. IsLexeme bytes.now symbols.new token.now l) }
+    ensures grows { Grows symbols.old symbols.new }
+    ensures few { length symbols.new ≤ length symbols.old + 1 }
+{
+    let Ok(text) = str::from_utf8(text_of(bytes, token)) else {
+        unreachable!();
+    };
+    let name = name_with(token.kind, text, symbols)?;
+    Ok(Lexeme {
+        kind: kind_with(token.kind, text),
+        name,
+        place: token.place,
+    })
+}
+
+/// The lexemes of the tokens of a text.
+fn lexemes(
+    alloc: Global,
+    bytes: &[u8],
+    tokens: &[Token],
+    symbols: &mut Symbols,
+) -> Result<Vec<Lexeme>, Memory>
+    requires text { Each (HasText bytes.now) tokens.now }
+    requires written { Each (λ t. Writes t.kind (lexeme_of bytes.now t).text (slice_of bytes.now t)) tokens.now }
+    ensures are { IfOk result (λ ls. EachIs bytes.now symbols.new tokens.now ls.items) }
+    ensures grows { Grows symbols.old symbols.new }
+    ensures few { length symbols.new ≤ length symbols.old + length tokens.now }
+{
+    let mut found = Vec::with_capacity(alloc, tokens.len())?;
+    let mut rest = tokens;
+    'cut: while let Some((token, more)) = rest.split_first() {
+        let next = lexeme(bytes, token, symbols)?;
+        let _pushed = found.push(next)?;
+        rest = more;
+    }
+    Ok(found)
+}
+
+/// How many lexemes stand before the first bracket that opens inside as many open ones as the limit.
+fn shallow(lexemes: &[Lexeme]) -> usize
+    ensures { result ≡ shallow_len turn BRACKET_LIMIT 0 lexemes.now }
+{
+    let mut rest = lexemes;
+    let mut level = 0;
+    let mut count = 0;
+    'cut: while let Some((lexeme, more)) = rest.split_first() {
+        let Some(next) = depth_behind(level, lexeme.kind.turn(), BRACKET_LIMIT) else {
+            return count;
+        };
+        level = next;
+        count += 1;
+        rest = more;
+    }
+    count
+}
+
+/// The metagrammar that the lexemes spell, with the first complaint, or the number of lexemes
+/// before the place where they break off.
+fn reading(
+    alloc: Global,
+    lexemes: &[Lexeme],
+) -> Result<Result<(Metagrammar, Option<Complaint>), usize>, Memory>
+    ensures { IfOk result (λ r. IsReading system turn BRACKET_LIMIT metagrammar_text (λ ts rest m. reading_of m) lexemes.now r) }
+{
+    let room = shallow(lexemes);
+    let (part, deep) = lexemes.split_at(room);
+    let mut reader = Reader {
+        cursor: Cursor { rest: part },
+        complaint: None,
+        attributes: Attributes::new(alloc),
+    };
+    match reader.items(alloc) {
+        Ok(found) => {
+            if reader.cursor.rest.len() > 0 {
+                return Ok(Err(part.len() - reader.cursor.rest.len()));
+            }
+            if deep.len() > 0 {
+                return Ok(Err(part.len()));
+            }
+            Ok(Ok((found, reader.complaint)))
+        }
+        Err(Stop::Syntax) => Ok(Err(part.len() - reader.cursor.rest.len())),
+        Err(Stop::Memory) => Err(Memory),
+    }
+}
+
+/// The metagrammar, or the refusal for its first complaint.
+fn accepted(whole: (Metagrammar, Option<Complaint>)) -> Result<Metagrammar, ReadRefusal>
+    ensures { result ≡ accepted whole.0 whole.1 }
+{
+    let (metagrammar, complaint) = whole;
+    match complaint {
+        None => Ok(metagrammar),
+        Some(complaint) => Err(complaint.refusal()),
+    }
+}
+
+/// The place of the lexeme with this number, counted from 0, or that of the end of the bytes.
+fn place_at(bytes: &[u8], lexemes: &[Lexeme], number: usize) -> Place
+    requires { length bytes.now ≤ 1048576 }
+    ensures { result ≡ place_of bytes.now (drop number lexemes.now) }
+{
+    match lexemes.get(number) {
+        Some(lexeme) => lexeme.place,
+        None => end_place(bytes),
+    }
+}
+
+/// The metagrammar that the bytes spell, at most 1,048,576 of them. Its names are numbers of the
+/// table, which keeps all of its texts and gets those of the text that are new, also where the text
+/// is refused, and no more new ones than the text has bytes.
+///
+/// A text that isn't UTF-8 is refused as `NotUtf8`. It is refused as `Syntax` at the first byte that
+/// begins no token, or else at the first token after which no metagrammar goes on, or which opens a
+/// bracket inside 200 open ones, or at the end. Then the first complaint counts: `Duplicate` where an
+/// attribute stands a second time in a list of properties, a list of features or a bag, or
+/// `TooManyClasses` at the word `class` of the 4,097th class. Want of memory may stand in place of
+/// any answer.
+pub fn read_metagrammar(
+    alloc: Global,
+    bytes: &[u8],
+    symbols: &mut Symbols,
+) -> Result<Metagrammar, ReadRefusal>
+    requires { length bytes.now ≤ 1048576 }
+    ensures ok { IfOk result (λ m. IsMetagrammar bytes.now symbols.new m) }
+    ensures err { IfErr result (λ refusal. (refusal ≡ ReadRefusal.Memory) ⊎ IsRefusal bytes.now symbols.new refusal) }
+    ensures grows { Grows symbols.old symbols.new }
+    ensures few { length symbols.new ≤ length symbols.old + length bytes.now }
+{
+    let cut = tokens(alloc, bytes)?;
+    let found = lexemes(alloc, bytes, cut.as_slice(), symbols)?;
+    let read = reading(alloc, found.as_slice())?;
+    match read {
+        Ok(whole) => accepted(whole),
+        Err(number) => Err(ReadRefusal::Syntax(place_at(bytes, found.as_slice(), number))),
+    }
+}

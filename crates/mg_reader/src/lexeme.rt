@@ -1,0 +1,356 @@
+//! What the grammar sees of a token.
+ghost use Rattle.std.specs.Prelude.{◌≡◌};
+ghost use Rattle.gr_grammar.specs.declared.brackets.Turn.{Turn as Turned};
+ghost use Rattle.mg_reader.specs.Kinds.{high, kind_number, low, sign_kind, test, turn_of, word_kind};
+
+use gr_grammar::brackets::Turn;
+use gr_terms::Sym;
+use gr_text::Place;
+
+/// What a lexeme is: each sign and each word of the grammar is a kind of its own. The order is that
+/// of the classes of the grammar, each of which is a stretch of it.
+#[derive(Clone, Copy, Debug, PartialEq, Eq)]
+pub enum Kind {
+    /// `->`.
+    Below,
+    /// `->+`.
+    BelowPlus,
+    /// `->*`.
+    BelowStar,
+    /// `>>`.
+    Next,
+    /// `>>+`.
+    NextPlus,
+    /// `>>*`.
+    NextStar,
+    /// `=`.
+    Equals,
+    /// `>`.
+    Greater,
+    /// `<`.
+    Less,
+    /// `...`.
+    Dots,
+    /// `...+`.
+    DotsPlus,
+    /// `.`.
+    Dot,
+    /// `,,,`.
+    Commas,
+    /// `,`.
+    Comma,
+    /// `;`.
+    Semicolon,
+    /// `:`.
+    Colon,
+    /// `|`.
+    Bar,
+    /// `!`.
+    Bang,
+    /// `(`.
+    LeftParen,
+    /// `)`.
+    RightParen,
+    /// `[`.
+    LeftBracket,
+    /// `]`.
+    RightBracket,
+    /// `{`.
+    LeftBrace,
+    /// `}`.
+    RightBrace,
+    /// A variable.
+    Var,
+    /// A string.
+    Str,
+    /// The word `class`.
+    Class,
+    /// The word `import`.
+    Import,
+    /// The word `export`.
+    Export,
+    /// The word `declare`.
+    Declare,
+    /// The word `value`.
+    Value,
+    /// The word `node`.
+    Node,
+    /// The word `type`.
+    Domain,
+    /// The word `property`.
+    Property,
+    /// The word `feature`.
+    Feature,
+    /// The word `use`.
+    Use,
+    /// The word `anchor`.
+    Anchor,
+    /// The word `coanchor`.
+    Coanchor,
+    /// The word `subst`.
+    Subst,
+    /// The word `foot`.
+    Foot,
+    /// The word `lex`.
+    Lex,
+    /// The word `nadj`.
+    Nadj,
+    /// The word `with`.
+    With,
+    /// The word `dims`.
+    Dims,
+    /// The word `syn`.
+    Syn,
+    /// The word `sem`.
+    Sem,
+    /// The word `iface`.
+    Iface,
+    /// The word `black`.
+    Black,
+    /// The word `white`.
+    White,
+    /// The word `red`.
+    Red,
+    /// The word `top`.
+    Top,
+    /// The word `bot`.
+    Bot,
+    /// Any other word.
+    Word,
+    /// The word `color`.
+    Color,
+    /// The word `mark`.
+    Mark,
+    /// The word `cat`.
+    Cat,
+}
+
+/// A token as the grammar sees it.
+#[derive(Clone, Copy, Debug, PartialEq, Eq)]
+pub struct Lexeme {
+    /// What it is.
+    pub kind: Kind,
+    /// The number of the text of a word, a variable or a string.
+    pub name: Sym,
+    /// Where it stands.
+    pub place: Place,
+}
+
+/// A class of lexemes.
+#[derive(Clone, Copy, Debug, PartialEq, Eq)]
+pub enum Class {
+    /// Those of one kind.
+    Is(Kind),
+    /// The six relations and `=`.
+    Operator,
+    /// `...` and `...+`.
+    Descent,
+    /// Words and strings.
+    Name,
+    /// All words.
+    Word,
+    /// The words that name no class, as `node`.
+    Reserved,
+    /// All other words.
+    Plain,
+    /// The words but `color`, `mark` and `cat`.
+    Property,
+    /// The six words that mark a node.
+    Marker,
+    /// The words that are colours.
+    Paint,
+}
+
+impl Kind {
+    /// The number of the kind, in their order.
+    pub fn number(self) -> u8
+        ensures { result ≡ kind_number self }
+    {
+        match self {
+            Kind::Below => 0,
+            Kind::BelowPlus => 1,
+            Kind::BelowStar => 2,
+            Kind::Next => 3,
+            Kind::NextPlus => 4,
+            Kind::NextStar => 5,
+            Kind::Equals => 6,
+            Kind::Greater => 7,
+            Kind::Less => 8,
+            Kind::Dots => 9,
+            Kind::DotsPlus => 10,
+            Kind::Dot => 11,
+            Kind::Commas => 12,
+            Kind::Comma => 13,
+            Kind::Semicolon => 14,
+            Kind::Colon => 15,
+            Kind::Bar => 16,
+            Kind::Bang => 17,
+            Kind::LeftParen => 18,
+            Kind::RightParen => 19,
+            Kind::LeftBracket => 20,
+            Kind::RightBracket => 21,
+            Kind::LeftBrace => 22,
+            Kind::RightBrace => 23,
+            Kind::Var => 24,
+            Kind::Str => 25,
+            Kind::Class => 26,
+            Kind::Import => 27,
+            Kind::Export => 28,
+            Kind::Declare => 29,
+            Kind::Value => 30,
+            Kind::Node => 31,
+            Kind::Domain => 32,
+            Kind::Property => 33,
+            Kind::Feature => 34,
+            Kind::Use => 35,
+            Kind::Anchor => 36,
+            Kind::Coanchor => 37,
+            Kind::Subst => 38,
+            Kind::Foot => 39,
+            Kind::Lex => 40,
+            Kind::Nadj => 41,
+            Kind::With => 42,
+            Kind::Dims => 43,
+            Kind::Syn => 44,
+            Kind::Sem => 45,
+            Kind::Iface => 46,
+            Kind::Black => 47,
+            Kind::White => 48,
+            Kind::Red => 49,
+            Kind::Top => 50,
+            Kind::Bot => 51,
+            Kind::Word => 52,
+            Kind::Color => 53,
+            Kind::Mark => 54,
+            Kind::Cat => 55,
+        }
+    }
+
+    /// What a lexeme of the kind does to the brackets that are open.
+    pub fn turn(self) -> Turn
+        ensures { result ≡ turn_of self }
+    {
+        match self {
+            Kind::LeftParen | Kind::LeftBracket | Kind::LeftBrace => Turn::Opens,
+            Kind::RightParen | Kind::RightBracket | Kind::RightBrace => Turn::Closes,
+            _ => Turn::Neither,
+        }
+    }
+
+    /// The kind of the word.
+    pub fn of_word(text: &str) -> Kind
+        ensures { result ≡ word_kind text.now }
+    {
+        match text {
+            "class" => Kind::Class,
+            "import" => Kind::Import,
+            "export" => Kind::Export,
+            "declare" => Kind::Declare,
+            "value" => Kind::Value,
+            "node" => Kind::Node,
+            "type" => Kind::Domain,
+            "property" => Kind::Property,
+            "feature" => Kind::Feature,
+            "use" => Kind::Use,
+            "anchor" => Kind::Anchor,
+            "coanchor" => Kind::Coanchor,
+            "subst" => Kind::Subst,
+            "foot" => Kind::Foot,
+            "lex" => Kind::Lex,
+            "nadj" => Kind::Nadj,
+            "with" => Kind::With,
+            "dims" => Kind::Dims,
+            "syn" => Kind::Syn,
+            "sem" => Kind::Sem,
+            "iface" => Kind::Iface,
+            "black" => Kind::Black,
+            "white" => Kind::White,
+            "red" => Kind::Red,
+            "top" => Kind::Top,
+            "bot" => Kind::Bot,
+            "color" => Kind::Color,
+            "mark" => Kind::Mark,
+            "cat" => Kind::Cat,
+            _ => Kind::Word,
+        }
+    }
+
+    /// The kind of the sign.
+    pub fn of_sign(text: &str) -> Kind
+        ensures { result ≡ sign_kind text.now }
+    {
+        match text {
+            "->" => Kind::Below,
+            "->+" => Kind::BelowPlus,
+            "->*" => Kind::BelowStar,
+            ">>" => Kind::Next,
+            ">>+" => Kind::NextPlus,
+            ">>*" => Kind::NextStar,
+            "=" => Kind::Equals,
+            ">" => Kind::Greater,
+            "<" => Kind::Less,
+            "..." => Kind::Dots,
+            "...+" => Kind::DotsPlus,
+            "." => Kind::Dot,
+            ",,," => Kind::Commas,
+            "," => Kind::Comma,
+            ";" => Kind::Semicolon,
+            ":" => Kind::Colon,
+            "|" => Kind::Bar,
+            "!" => Kind::Bang,
+            "(" => Kind::LeftParen,
+            ")" => Kind::RightParen,
+            "[" => Kind::LeftBracket,
+            "]" => Kind::RightBracket,
+            "{" => Kind::LeftBrace,
+            "}" => Kind::RightBrace,
+            _ => Kind::Word,
+        }
+    }
+}
+
+impl Class {
+    /// The number of the first kind of the class.
+    fn low(self) -> u8
+        ensures { result ≡ low self }
+    {
+        match self {
+            Class::Is(kind) => kind.number(),
+            Class::Operator => 0,
+            Class::Descent => 9,
+            Class::Name => 25,
+            Class::Word => 26,
+            Class::Reserved => 26,
+            Class::Plain => 36,
+            Class::Property => 26,
+            Class::Marker => 36,
+            Class::Paint => 47,
+        }
+    }
+
+    /// The number behind that of the last kind of the class.
+    fn high(self) -> u8
+        ensures { result ≡ high self }
+    {
+        match self {
+            Class::Is(kind) => kind.number() + 1,
+            Class::Operator => 7,
+            Class::Descent => 11,
+            Class::Name => 56,
+            Class::Word => 56,
+            Class::Reserved => 36,
+            Class::Plain => 56,
+            Class::Property => 53,
+            Class::Marker => 42,
+            Class::Paint => 50,
+        }
+    }
+
+    /// Whether the lexeme is of the class.
+    pub fn has(self, lexeme: &Lexeme) -> bool
+        ensures { result ≡ test self lexeme.now }
+    {
+        let number = lexeme.kind.number();
+        self.low() <= number && number < self.high()
+    }
+}

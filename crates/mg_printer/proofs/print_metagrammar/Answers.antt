@@ -1,0 +1,8 @@
+use Rattle.mg_printer.proofs.Lines.{line_here, line_next}
+use Rattle.mg_printer.proofs.print_metagrammar.Goals as goal
+
+pub item-requires : goal.item-requires
+item-requires c = line_here c.args.symbols.now c.as_slice-one-items.result.now c.loop-one.one-index c.one-item.result _ c.one-item.is c.loop-one-test.true c.loop-one.invariant
+
+pub loop-one-preserved : goal.loop-one-preserved
+loop-one-preserved c = line_next c.args.symbols.now c.as_slice-one-items.result.now c.loop-one.one-index c.one-item.result _ c.one-item.is c.loop-one-test.true c.loop-one.invariant _ c.in_ok-item.ensures

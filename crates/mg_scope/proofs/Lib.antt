@@ -1,0 +1,15 @@
+pub mod TableLemmas
+pub mod GatherLemmas
+pub mod UseLemmas
+pub mod ClassLemmas
+pub mod LoopLemmas
+pub mod NameLemmas
+pub mod CallerLemmas
+pub mod RankLemmas
+pub mod StepLemmas
+pub mod VariableLemmas
+pub mod CheckLemmas
+pub mod FirstLemmas
+pub mod DepthLaws
+pub mod AnswerLaws
+pub mod AnsweredLaws

@@ -1,0 +1,7 @@
+use Rattle.std.proofs.Common.{◌≡◌, ◌++◌, take}
+use Rattle.gr_base.specs.Lists.{gathered}
+use Rattle.mg_scope.specs.Uses.{statement_uses}
+use Rattle.mg_scope.proofs.uses.push_body.Given as goal
+
+abbrev pub invariant-loop-alternative : goal.invariant-loop-alternative
+invariant-loop-alternative l = l.uses.items ≡ l.initial.uses.items ++ gathered (gathered statement_uses) (take l.alternative-index l.alternative-items)

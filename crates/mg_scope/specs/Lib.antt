@@ -1,0 +1,10 @@
+pub mod Uses
+pub mod Classes
+pub mod Cycles
+pub mod Faults
+pub mod Tables
+pub mod Names
+pub mod Directories
+pub mod Orders
+pub mod Variables
+pub mod Checks

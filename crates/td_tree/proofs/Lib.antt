@@ -1,0 +1,2 @@
+pub mod PreorderLemmas
+pub mod TreeNetworkLemmas

@@ -1,0 +1,4 @@
+pub mod Trees
+pub mod Positions
+pub mod TreeViews
+pub mod TreeNetworks

@@ -1,0 +1,3 @@
+pub mod Descriptions
+pub mod Conditions
+pub mod Likeness

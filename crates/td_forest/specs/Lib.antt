@@ -1,0 +1,8 @@
+pub mod Nodes
+pub mod Steps
+pub mod Moves
+pub mod Names
+pub mod Walks
+pub mod Without
+pub mod Spots
+pub mod Spans

@@ -1,0 +1,15 @@
+pub mod Ends
+pub mod Onto
+pub mod Standing
+pub mod Apart
+pub mod Renumbering
+pub mod Gaining
+pub mod Sharing
+pub mod Passing
+pub mod Telling
+pub mod Lawfulness
+pub mod Whole
+pub mod Heads
+pub mod Deciding
+pub mod TestLemmas
+pub mod OneForm

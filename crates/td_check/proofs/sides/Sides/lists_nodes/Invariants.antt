@@ -1,0 +1,10 @@
+use Rattle.std.proofs.Common.{◌≡◌, Some}
+use Rattle.std.specs.Prelude.{slice_get, slice_index}
+use Rattle.td_desc.specs.declared.DescribedNode.{DescribedNode}
+use Rattle.td_check.specs.Sides.{network_in}
+use Rattle.td_check.specs.Places.{AtFirst, ListsNode}
+use Rattle.td_check.proofs.sides.Sides.lists_nodes.Given as goal
+
+abbrev pub invariant-loop-at : goal.invariant-loop-at
+invariant-loop-at l =
+    AtFirst l.at l.self.tree.now.nodes (λ k n. (m : DescribedNode) → slice_get l.self.d.now.nodes (slice_index l.self.heads k) ≡ Some m → ListsNode (network_in l.self) l.self.slots n m)

@@ -1,0 +1,9 @@
+pub mod SameForms
+pub mod LeastTerms
+pub mod TreeForms
+pub mod LoadSteps
+pub mod CarryLemmas
+pub mod ModelLemmas
+pub mod ReadingLemmas
+pub mod LaidNodes
+pub mod ReadTrees

@@ -1,0 +1,6 @@
+pub mod Loads
+pub mod Carrying
+pub mod CanonicalTrees
+pub mod ModelTrees
+pub mod Forms
+pub mod Reading

@@ -1,0 +1,15 @@
+pub mod Finding
+pub mod Deciding
+pub mod TieLemmas
+pub mod Suiting
+pub mod Listed
+pub mod Choosing
+pub mod Advancing
+pub mod Totals
+pub mod Taking
+pub mod Turning
+pub mod Looping
+pub mod Exploring
+pub mod Texts
+pub mod Solving
+pub mod Adding

@@ -1,0 +1,6 @@
+use Rattle.std.proofs.Common.{◌≡◌}
+use Rattle.td_solver.specs.Ties.{is_tight_before, kept_for}
+use Rattle.td_solver.proofs.ties.all_tight.Given as goal
+
+abbrev pub invariant-loop-node : goal.invariant-loop-node
+invariant-loop-node l = l.all ≡ kept_for is_tight_before l.node l.relations

@@ -1,0 +1,7 @@
+pub mod Solutions
+pub mod Searches
+pub mod Ties
+pub mod Candidates
+pub mod Choices
+pub mod Tasks
+pub mod Turns

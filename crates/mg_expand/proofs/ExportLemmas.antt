@@ -1,0 +1,110 @@
+-- Each name of a list once, by first place.
+use Rattle.std.specs.Prelude.{◌≡◌, List, [], ◌∷◌, ◌++◌, Bool, true, false, ◌==◌, if◌then◌else◌, not, ◌⊎◌, refl}
+use Rattle.std.specs.List.{filter}
+use Rattle.std.proofs.Common.{inl, inr, ap, sym, ◌∙◌, subst, ℕ, ◌+◌, ◌<◌, length, take, get_or}
+use Rattle.std.proofs.lemmas.List.{take_more}
+use Rattle.gr_base.proofs.ListLemmas.{IsAmong-one_more}
+use Rattle.gr_base.specs.Lists.{IsAmong}
+use Rattle.gr_terms.specs.declared.Sym.{Sym}
+use Rattle.mg_scope.specs.Classes.{firsts}
+use Rattle.mg_scope.proofs.TableLemmas.{Compared, same_name, other_name, compared, same_number, other_number, same_sym}
+
+filter-append : (p : Sym → Bool) (xs ys : List Sym) → filter p (xs ++ ys) ≡ filter p xs ++ filter p ys
+filter-append p [] ys = refl
+filter-append p (x ∷ xs) ys = by (p x) (filter-append p xs ys)
+  where
+    by : (t : Bool) → filter p (xs ++ ys) ≡ filter p xs ++ filter p ys → (if t then x ∷ filter p (xs ++ ys) else filter p (xs ++ ys)) ≡ (if t then x ∷ filter p xs else filter p xs) ++ filter p ys
+    by true e = ap (λ z. x ∷ z) e
+    by false e = e
+
+nothing_more : (xs : List Sym) → xs ++ [] ≡ xs
+nothing_more [] = refl
+nothing_more (x ∷ xs) = ap (λ z. x ∷ z) (nothing_more xs)
+
+among_or_not : (xs : List Sym) (x : Sym) → IsAmong xs x ⊎ (IsAmong xs x → ⊥)
+among_or_not [] x = inr (λ i. i)
+among_or_not (y ∷ ys) x = by (compared x y) (among_or_not ys x)
+  where
+    by : Compared x y → IsAmong ys x ⊎ (IsAmong ys x → ⊥) → IsAmong (y ∷ ys) x ⊎ (IsAmong (y ∷ ys) x → ⊥)
+    by (same_name e) more = inl (inl e)
+    by (other_name o) (inl i) = inl (inr i)
+    by (other_name o) (inr n) = inr (λ i. elim i [ inl e ↦ o e | inr j ↦ n j ])
+
+-- the test for another name, at the name and at others
+drops : (y x : Sym) → x ≡ y → filter (λ (z : Sym). not (z.0 == y.0)) (x ∷ []) ≡ []
+drops y x e = ap (λ b. if not b then x ∷ [] else []) (same_number x.0 y.0 (ap (λ (s : Sym). s.0) e))
+
+keeps : (y x : Sym) → (x ≡ y → ⊥) → filter (λ (z : Sym). not (z.0 == y.0)) (x ∷ []) ≡ x ∷ []
+keeps y x o = ap (λ b. if not b then x ∷ [] else []) (other_number x.0 y.0 (λ e. o (same_sym x y e)))
+
+firsts_new : (xs : List Sym) (x : Sym) → (IsAmong xs x → ⊥) → firsts (xs ++ x ∷ []) ≡ firsts xs ++ x ∷ []
+firsts_new [] x new = refl
+firsts_new (y ∷ ys) x new =
+    ap (λ z. y ∷ filter (λ (z : Sym). not (z.0 == y.0)) z) (firsts_new ys x (λ i. new (inr i)))
+    ∙ ap (λ z. y ∷ z) (filter-append (λ (z : Sym). not (z.0 == y.0)) (firsts ys) (x ∷ [])
+    ∙ ap (λ z. filter (λ (z : Sym). not (z.0 == y.0)) (firsts ys) ++ z) (keeps y x (λ e. new (inl e))))
+
+firsts_known : (xs : List Sym) (x : Sym) → IsAmong xs x → firsts (xs ++ x ∷ []) ≡ firsts xs
+firsts_known [] x i = absurd i
+firsts_known (y ∷ ys) x i = by (among_or_not ys x) i (firsts_known ys x)
+  where
+    by : IsAmong ys x ⊎ (IsAmong ys x → ⊥) → IsAmong (y ∷ ys) x → (IsAmong ys x → firsts (ys ++ x ∷ []) ≡ firsts ys) → firsts (y ∷ ys ++ x ∷ []) ≡ firsts (y ∷ ys)
+    by (inl j) i more = ap (λ z. y ∷ filter (λ (z : Sym). not (z.0 == y.0)) z) (more j)
+    by (inr n) (inl e) more =
+        ap (λ z. y ∷ filter (λ (z : Sym). not (z.0 == y.0)) z) (firsts_new ys x n)
+        ∙ ap (λ z. y ∷ z) (filter-append (λ (z : Sym). not (z.0 == y.0)) (firsts ys) (x ∷ [])
+        ∙ ap (λ z. filter (λ (z : Sym). not (z.0 == y.0)) (firsts ys) ++ z) (drops y x e) ∙ nothing_more (filter (λ (z : Sym). not (z.0 == y.0)) (firsts ys)))
+    by (inr n) (inr j) more = absurd (n j)
+
+IsAmong-filter : (p : Sym → Bool) (xs : List Sym) (x : Sym) → IsAmong xs x → p x ≡ true → IsAmong (filter p xs) x
+IsAmong-filter p [] x i h = absurd i
+IsAmong-filter p (y ∷ ys) x i h = by (p y) refl i (λ j. IsAmong-filter p ys x j h)
+  where
+    at_head : (t : Bool) → p y ≡ t → x ≡ y → t ≡ true
+    at_head t e q = sym e ∙ ap p (sym q) ∙ h
+
+    never : false ≡ true → ⊥
+    never r = cc
+
+    by : (t : Bool) → p y ≡ t → IsAmong (y ∷ ys) x → (IsAmong ys x → IsAmong (filter p ys) x) → IsAmong (if t then y ∷ filter p ys else filter p ys) x
+    by true e (inl q) more = inl q
+    by true e (inr j) more = inr (more j)
+    by false e (inl q) more = absurd (never (at_head false e q))
+    by false e (inr j) more = more j
+
+IsAmong-filter_from : (p : Sym → Bool) (xs : List Sym) (x : Sym) → IsAmong (filter p xs) x → IsAmong xs x
+IsAmong-filter_from p [] x i = i
+IsAmong-filter_from p (y ∷ ys) x i = by (p y) i (IsAmong-filter_from p ys x)
+  where
+    by : (t : Bool) → IsAmong (if t then y ∷ filter p ys else filter p ys) x → (IsAmong (filter p ys) x → IsAmong ys x) → IsAmong (y ∷ ys) x
+    by true (inl q) more = inl q
+    by true (inr j) more = inr (more j)
+    by false j more = inr (more j)
+
+IsAmong-firsts : (xs : List Sym) (x : Sym) → IsAmong xs x → IsAmong (firsts xs) x
+IsAmong-firsts [] x i = i
+IsAmong-firsts (y ∷ ys) x i = by (compared x y) i (IsAmong-firsts ys x)
+  where
+    by : Compared x y → IsAmong (y ∷ ys) x → (IsAmong ys x → IsAmong (firsts ys) x) → IsAmong (firsts (y ∷ ys)) x
+    by (same_name e) j more = inl e
+    by (other_name o) (inl e) more = absurd (o e)
+    by (other_name o) (inr j) more =
+        inr (IsAmong-filter (λ (z : Sym). not (z.0 == y.0)) (firsts ys) x (more j) (ap not (other_number x.0 y.0 (λ e. o (same_sym x y e)))))
+
+IsAmong-firsts_from : (xs : List Sym) (x : Sym) → IsAmong (firsts xs) x → IsAmong xs x
+IsAmong-firsts_from [] x i = i
+IsAmong-firsts_from (y ∷ ys) x (inl e) = inl e
+IsAmong-firsts_from (y ∷ ys) x (inr j) = inr (IsAmong-firsts_from ys x (IsAmong-filter_from (λ (z : Sym). not (z.0 == y.0)) (firsts ys) x j))
+
+-- one more name
+pub firsts_again : (names seen : List Sym) (x : Sym) → IsAmong names x → names ≡ firsts seen → names ≡ firsts (seen ++ x ∷ [])
+firsts_again names seen x i e = e ∙ sym (firsts_known seen x (IsAmong-firsts_from seen x (subst (λ z. IsAmong z x) e i)))
+
+pub firsts_more : (names more seen : List Sym) (x : Sym) → (IsAmong names x → ⊥) → more ≡ names ++ x ∷ [] → names ≡ firsts seen → more ≡ firsts (seen ++ x ∷ [])
+firsts_more names more seen x new push e =
+    push ∙ ap (λ z. z ++ x ∷ []) e ∙ sym (firsts_new seen x (λ i. new (subst (λ z. IsAmong z x) (sym e) (IsAmong-firsts seen x i))))
+
+-- where the first names don't have x, and the next one isn't x, those and the next don't have it
+pub not_among_more : (xs : List Sym) (i : ℕ) (d x : Sym) → i < length xs → (IsAmong (take i xs) x → ⊥) → ((get_or xs i d).0 ≡ x.0 → ⊥) → IsAmong (take (i + 1) xs) x → ⊥
+not_among_more xs i d x within none other among =
+    elim (IsAmong-one_more (take i xs) (get_or xs i d) x (subst (λ z. IsAmong z x) (take_more xs i d within) among)) [ inl p ↦ none p | inr e ↦ other (ap (λ (s : Sym). s.0) (sym e)) ]

@@ -1,0 +1,9 @@
+pub mod Walks
+pub mod Items
+pub mod Routes
+pub mod Progress
+pub mod Steps
+pub mod Sizes
+pub mod Errands
+pub mod Walkers
+pub mod Ways

@@ -1,0 +1,13 @@
+mod LedgerLemmas
+mod OneDescription
+mod GatheredLemmas
+mod NumberLemmas
+mod ReadingLemmas
+mod ClassLemmas
+mod StatedLemmas
+mod MeaningLemmas
+mod ClashLemmas
+mod DescribeLemmas
+mod LoopLemmas
+mod WholeLemmas
+mod FactsLemmas

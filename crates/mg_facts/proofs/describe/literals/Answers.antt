@@ -1,0 +1,13 @@
+use Rattle.std.proofs.Common.{◌++◌, ap, ◌∙◌}
+use Rattle.gr_base.specs.Lists.{gathered}
+use Rattle.mg_facts.specs.Numbered.{literals_in}
+use Rattle.mg_facts.proofs.LoopLemmas.{gathered-step, taken_all}
+use Rattle.mg_facts.proofs.describe.literals.Goals as goal
+
+pub loop-fact-preserved : goal.loop-fact-preserved
+loop-fact-preserved c =
+    gathered-step literals_in c.args.facts.now c.loop-fact.fact-index c.fact-item.result c.loop-fact.list c.add_literal.new.list c.loop-fact-test.true c.loop-fact.invariant
+    (c.in_ok-add_literal.ensures ∙ ap (λ f. c.loop-fact.list ++ literals_in f) c.fact-item.is)
+
+pub returns : goal.returns
+returns c = c.loop-fact.invariant ∙ ap (gathered literals_in) (taken_all c.args.facts.now c.loop-fact.fact-index c.loop-fact-test.false)

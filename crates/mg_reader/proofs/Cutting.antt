@@ -20,6 +20,8 @@ use Rattle.mg_reader.specs.declared.cursor.Stop.TheVariants.{Syntax}
 use Rattle.mg_reader.specs.Grammar.{system}
 use Rattle.mg_reader.specs.Lexemes.{IsLexeme, HasName, EachIs}
 use Rattle.mg_reader.specs.Reading.{StopsAt, for_syntax}
+use Rattle.mg_reader.specs.Tables.{AreNumbered}
+use Rattle.mg_reader.proofs.Numbering.{numbered_push}
 
 pub both_of : {A B : Type 0} {a b : A} {c d : B} → a ≡ b → c ≡ d → ◌≡◌ {A = A × B} (a, c) (b, d)
 both_of e f = λ i. (e i, f i)
@@ -61,17 +63,18 @@ pub record HasRead (bytes : List ℕ) (old new : List (List ℕ)) (all rest : Li
   pub front : List Token
   pub split : all ≡ front ++ rest
   pub each : EachIs bytes new front found
+  pub numbered : AreNumbered bytes old front new
   pub grows : Grows old new
   pub few : length new ≤ length old + length front
   pub text : Each (HasText bytes) rest
   pub written : Each (λ t. Writes t.kind (lexeme_of bytes t).text (slice_of bytes t)) rest
 
 pub read_none : (bytes : List ℕ) (texts : List (List ℕ)) (all : List Token) → Each (HasText bytes) all → Each (λ t. Writes t.kind (lexeme_of bytes t).text (slice_of bytes t)) all → HasRead bytes texts texts all all []
-read_none bytes texts all h w = record { front = []; split = refl; each = tt; grows = ([], sym (append-nil texts)); few = omega arith; text = h; written = w }
+read_none bytes texts all h w = record { front = []; split = refl; each = tt; numbered = refl; grows = ([], sym (append-nil texts)); few = omega arith; text = h; written = w }
 
 pub read_more : (bytes : List ℕ) (old new newer : List (List ℕ)) (all rest : List Token) (found : List Lexeme) (t : Token) (more : List Token) (l : Lexeme) {found' : List Lexeme} →
-    HasRead bytes old new all rest found → rest ≡ t ∷ more → Grows new newer → length newer ≤ length new + 1 → IsLexeme bytes newer t l → found' ≡ found ++ l ∷ [] → HasRead bytes old newer all more found'
-read_more bytes old new newer all rest found t more l r e g n i f =
+    HasRead bytes old new all rest found → rest ≡ t ∷ more → Grows new newer → length newer ≤ length new + 1 → IsLexeme bytes newer t l → AreNumbered bytes new (t ∷ []) newer → found' ≡ found ++ l ∷ [] → HasRead bytes old newer all more found'
+read_more bytes old new newer all rest found t more l r e g n i b f =
     let text = subst (λ z. Each (HasText bytes) z) e r.text in
     let written = subst (λ z. Each (λ u. Writes u.kind (lexeme_of bytes u).text (slice_of bytes u)) z) e r.written in
     let long = length-append r.front (t ∷ []) in let before = r.few in
@@ -79,6 +82,7 @@ read_more bytes old new newer all rest found t more l r e g n i f =
       front = r.front ++ t ∷ [];
       split = r.split ∙ (ap (λ z. r.front ++ z) e ∙ sym (append_assoc r.front (t ∷ []) more));
       each = subst (λ z. EachIs bytes newer (r.front ++ t ∷ []) z) (sym f) (each_push bytes newer r.front found t l (each_kept bytes new newer r.front found g r.each) i);
+      numbered = numbered_push bytes old new newer r.front t r.numbered b;
       grows = grows_on old new newer r.grows g;
       few = omega arith;
       text = text.1;
@@ -88,6 +92,10 @@ read_more bytes old new newer all rest found t more l r e g n i f =
 pub read_all : (bytes : List ℕ) (old new : List (List ℕ)) (all rest : List Token) (found : List Lexeme) → HasRead bytes old new all rest found → length rest ≡ 0 → EachIs bytes new all found
 read_all bytes old new all [] found r e = subst (λ z. EachIs bytes new z found) (sym (r.split ∙ append-nil r.front)) r.each
 read_all bytes old new all (t ∷ rest) found r e = absurd (omega arith)
+
+pub read_numbered : (bytes : List ℕ) (old new : List (List ℕ)) (all rest : List Token) (found : List Lexeme) → HasRead bytes old new all rest found → length rest ≡ 0 → AreNumbered bytes old all new
+read_numbered bytes old new all [] found r e = subst (λ z. AreNumbered bytes old z new) (sym (r.split ∙ append-nil r.front)) r.numbered
+read_numbered bytes old new all (t ∷ rest) found r e = absurd (omega arith)
 
 pub read_few : (bytes : List ℕ) (old new : List (List ℕ)) (all rest : List Token) (found : List Lexeme) → HasRead bytes old new all rest found → length new ≤ length old + length all
 read_few bytes old new all rest found r = let a = ap length r.split in let b = length-append r.front rest in let c = r.few in omega arith

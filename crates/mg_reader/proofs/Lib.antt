@@ -1,6 +1,7 @@
 mod Systems
 mod Steps
 mod Keys
+mod Numbering
 mod Cutting
 mod Spelled
 mod Finish

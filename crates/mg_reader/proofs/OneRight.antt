@@ -3,7 +3,6 @@ use Rattle.std.proofs.Common.{◌≡◌, ℕ, List, [], ◌∷◌, refl, ap, sym
 use Rattle.std.specs.Prelude.{Result, Ok, Err, ⊤}
 use mathlib.Core.Sum.{⊎_set}
 use Rattle.std.proofs.Math.Nat.{ℕ_set}
-use Rattle.std.proofs.lemmas.List.{append_cancel_right}
 use Rattle.gr_base.specs.Lists.{NoneTwice}
 use Rattle.gr_grammar.specs.Grammars.{IsText}
 use Rattle.gr_grammar.specs.Depths.{IsShallow, IsShallowFault}
@@ -18,7 +17,6 @@ use Rattle.gr_tokens.specs.declared.ReadRefusal.{ReadRefusal}
 use Rattle.gr_tokens.specs.declared.ReadRefusal.TheVariants as refusal
 use Rattle.gr_tokens.specs.Answers.{IsRefused}
 use Rattle.gr_tokens.specs.Spans.{slice_of}
-use Rattle.gr_tokens.specs.Tokens.{Writes}
 use Rattle.gr_tokens.proofs.OneAnswer.{same_answer}
 use Rattle.mg_syntax.specs.declared.item.Item.{Item}
 use Rattle.mg_reader.specs.declared.lexeme.Lexeme.{Lexeme}
@@ -32,21 +30,11 @@ use Rattle.mg_reader.specs.Lexemes.{kind_of, HasName, IsLexeme, EachIs, AreLexem
 use Rattle.mg_reader.specs.Answers.{IsRight, place_of}
 use Rattle.mg_reader.specs.Reading.{refusal_of}
 use Rattle.mg_reader.proofs.Systems.{is_system}
+use Rattle.mg_reader.proofs.Numbering.{one_written, same_tokens, uncut}
 use Rattle.mg_reader.proofs.Unspelled.{unspelled}
 
 lexeme_set : IsSet Lexeme
 lexeme_set = hlevel (⊎_set, ℕ_set)
-
--- a token has one text
-abbrev tail_of : List ℕ → List ℕ
-tail_of [] = []
-tail_of (x ∷ xs) = xs
-
-one_written : (k : Cut) (text u own : List ℕ) → Writes k text own → Writes k u own → text ≡ u
-one_written Word text u own a b = sym a.0 ∙ b.0
-one_written Var text u own a b = ap tail_of (sym a.0 ∙ b.0)
-one_written Str text u own a b = append_cancel_right text u (34 ∷ []) (ap tail_of (sym a.0 ∙ b.0))
-one_written Punct text u own a b = sym a.0 ∙ b.0
 
 one_name : (texts : List (List ℕ)) (k : Cut) (text : List ℕ) (s t : Sym) → NoneTwice texts → HasName texts k text s → HasName texts k text t → s ≡ t
 one_name texts Word text s t n a b = λ i. record { 0 = one_number texts s.0 t.0 text n a b i }
@@ -70,21 +58,10 @@ one_each bytes texts (t ∷ ts) [] ks n a b = absurd a
 one_each bytes texts (t ∷ ts) (l ∷ ls) [] n a b = absurd b
 one_each bytes texts (t ∷ ts) (l ∷ ls) (k ∷ ks) n a b = λ i. one_lexeme bytes texts t l k n a.0 b.0 i ∷ one_each bytes texts ts ls ks n a.1 b.1 i
 
-abbrev or_none : Result (List Token) ReadRefusal → List Token
-or_none (Ok ts) = ts
-or_none (Err r) = []
-
-abbrev IsFound : Result (List Token) ReadRefusal → Type 0
-IsFound (Ok ts) = ⊤
-IsFound (Err r) = ⊥
-
 one_list : (bytes : List ℕ) (texts : List (List ℕ)) (ls ks : List Lexeme) → NoneTwice texts → AreLexemes bytes texts ls → AreLexemes bytes texts ks → ls ≡ ks
 one_list bytes texts ls ks n a b =
-    let same : a.tokens ≡ b.tokens = ap or_none (same_answer bytes (Ok a.tokens) (Ok b.tokens) a.are b.are) in
+    let same = same_tokens bytes a.tokens b.tokens a.are b.are in
     one_each bytes texts b.tokens ls ks n (subst (λ z. EachIs bytes texts z ls) same a.each) b.each
-
-uncut : (bytes : List ℕ) (texts : List (List ℕ)) (ls : List Lexeme) (r : ReadRefusal) → AreLexemes bytes texts ls → IsRefused bytes r → ⊥
-uncut bytes texts ls r a h = subst IsFound (same_answer bytes (Ok a.tokens) (Err r) a.are h) tt
 
 one_text : (ts : List Lexeme) (m n : IsText system metagrammar_text ts) → m ≡ n
 one_text ts m n = one_tree system is_system lexeme_set refl m n
@@ -146,8 +123,8 @@ one_shape bytes texts x y n (not_cut r h i) (not_cut s k j) = i ∙ (ap refused_
     refused_as : Result (List Token) ReadRefusal → Result (List Item) ReadRefusal
     refused_as (Ok ts) = Ok []
     refused_as (Err r) = Err r
-one_shape bytes texts x y n (not_cut r h i) (cut_into ls a s) = absurd (uncut bytes texts ls r a h)
-one_shape bytes texts x y n (cut_into ls a s) (not_cut r h i) = absurd (uncut bytes texts ls r a h)
+one_shape bytes texts x y n (not_cut r h i) (cut_into ls a s) = absurd (uncut bytes r h a.tokens a.are)
+one_shape bytes texts x y n (cut_into ls a s) (not_cut r h i) = absurd (uncut bytes r h a.tokens a.are)
 one_shape bytes texts x y n (cut_into ls a s) (cut_into ks b t) = one_sort bytes ks x y (subst (λ z. Sort bytes z x) (one_list bytes texts ls ks n a b) s) t
 
 pub one_right : (bytes : List ℕ) (texts : List (List ℕ)) (x y : Result (List Item) ReadRefusal) → NoneTwice texts → IsRight bytes texts x → IsRight bytes texts y → x ≡ y

@@ -5,4 +5,5 @@ pub mod Complaints
 pub mod Spelling
 pub mod Lexemes
 pub mod Answers
+pub mod Tables
 pub mod Reading

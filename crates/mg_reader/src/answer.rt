@@ -1,5 +1,5 @@
 //! Reads a metagrammar from its bytes: tokens, lexemes, the grammar, complaints.
-ghost use Rattle.std.specs.Prelude.{◌≡◌, ◌+◌, ◌≤◌, ◌⊎◌, length, drop, IfOk, IfErr};
+ghost use Rattle.std.specs.Prelude.{◌≡◌, ◌+◌, ◌≤◌, ◌⊎◌, [], ◌∷◌, length, drop, IfOk, IfErr, OnOk};
 ghost use Rattle.gr_base.specs.Lists.{Each};
 ghost use Rattle.gr_grammar.specs.Depths.{shallow_len};
 ghost use Rattle.gr_grammar.specs.Readings.{IsReading};
@@ -13,6 +13,7 @@ ghost use Rattle.mg_reader.specs.Grammar.{system, metagrammar_text};
 ghost use Rattle.mg_reader.specs.Kinds.{turn};
 ghost use Rattle.mg_reader.specs.Reading.{accepted};
 ghost use Rattle.mg_reader.specs.Lexemes.{EachIs, IsLexeme, kind_of, HasName};
+ghost use Rattle.mg_reader.specs.Tables.{AreNumbered, IsBehind, IsTable};
 
 use crate::cursor::{Cursor, Stop};
 use crate::lexeme::{Kind, Lexeme};
@@ -46,6 +47,7 @@ fn kind_with(cut: Cut, text: &str) -> Kind
 /// The name of a token with this text, which may be new to the table.
 fn name_with(cut: Cut, text: &str, symbols: &mut Symbols) -> Result<Sym, Memory>
     ensures named { IfOk result (λ name. HasName symbols.new cut text.now name) }
+    ensures numbered { OnOk result (IsBehind cut text.now symbols.old symbols.new) }
     ensures grows { Grows symbols.old symbols.new }
     ensures few { length symbols.new ≤ length symbols.old + 1 }
 {
@@ -62,6 +64,7 @@ fn lexeme(bytes: &[u8], token: &Token, symbols: &mut Symbols) -> Result<Lexeme, 
     requires text { HasText bytes.now token.now }
     requires written { Writes token.now.kind (lexeme_of bytes.now token.now).text (slice_of bytes.now token.now) }
     ensures is { IfOk result (λ l. IsLexeme bytes.now symbols.new token.now l) }
+    ensures numbered { OnOk result (AreNumbered bytes.now symbols.old (token.now ∷ []) symbols.new) }
     ensures grows { Grows symbols.old symbols.new }
     ensures few { length symbols.new ≤ length symbols.old + 1 }
 {
@@ -86,6 +89,7 @@ fn lexemes(
     requires text { Each (HasText bytes.now) tokens.now }
     requires written { Each (λ t. Writes t.kind (lexeme_of bytes.now t).text (slice_of bytes.now t)) tokens.now }
     ensures are { IfOk result (λ ls. EachIs bytes.now symbols.new tokens.now ls.items) }
+    ensures numbered { OnOk result (AreNumbered bytes.now symbols.old tokens.now symbols.new) }
     ensures grows { Grows symbols.old symbols.new }
     ensures few { length symbols.new ≤ length symbols.old + length tokens.now }
 {
@@ -173,6 +177,10 @@ fn place_at(bytes: &[u8], lexemes: &[Lexeme], number: usize) -> Place
 /// table, which keeps all of its texts and gets those of the text that are new, also where the text
 /// is refused, and no more new ones than the text has bytes.
 ///
+/// The new ones are the texts of words, strings and variables, in the order in which they first
+/// stand in the bytes, and signs give none. A text that isn't cut into tokens gives none at all. So
+/// for the bytes and the table before just one table is right, for each answer but want of memory.
+///
 /// A text that isn't UTF-8 is refused as `NotUtf8`. It is refused as `Syntax` at the first byte that
 /// begins no token, or else at the first token after which no metagrammar goes on, or which opens a
 /// bracket inside 200 open ones, or at the end. Then the first complaint counts: `Duplicate` where an
@@ -187,6 +195,8 @@ pub fn read_metagrammar(
     requires { length bytes.now ≤ 1048576 }
     ensures ok { IfOk result (λ m. IsMetagrammar bytes.now symbols.new m) }
     ensures err { IfErr result (λ refusal. (refusal ≡ ReadRefusal.Memory) ⊎ IsRefusal bytes.now symbols.new refusal) }
+    ensures table { OnOk result (IsTable bytes.now symbols.old symbols.new) }
+    ensures refused_table { IfErr result (λ refusal. (refusal ≡ ReadRefusal.Memory) ⊎ IsTable bytes.now symbols.old symbols.new) }
     ensures grows { Grows symbols.old symbols.new }
     ensures few { length symbols.new ≤ length symbols.old + length bytes.now }
 {

@@ -8,6 +8,7 @@ ghost use Rattle.mg_reader.specs.Answers.{IsRight, class_count};
 ghost use Rattle.mg_reader.specs.Complaints.{metagrammar_bad};
 ghost use Rattle.mg_reader.specs.Grammar.{system, metagrammar_text};
 ghost use Rattle.mg_reader.specs.Spelling.{Spells};
+ghost use Rattle.mg_reader.specs.Tables.{IsTable};
 ghost use Rattle.mg_reader.specs.Values.{metagrammar_of};
 ghost use Rattle.mg_reader.specs.declared.lexeme.Lexeme.{Lexeme as Read};
 
@@ -31,4 +32,13 @@ pub fn spellings_are_texts()
 pub fn one_answer()
     ensures { (bytes : List ℕ) (texts : List (List ℕ)) (a b : Result (List Entry) Refused) → NoneTwice texts
         → IsRight bytes texts a → IsRight bytes texts b → a ≡ b }
+{}
+
+/// For a text and the table that reading begins with, just one table is right behind it. No text
+/// stands twice in it, where none did before: so with [`one_answer`] the text and the table before
+/// say which answer is right, and which table.
+pub fn one_table()
+    ensures some { (bytes : List ℕ) (old : List (List ℕ)) → (new : List (List ℕ)) × IsTable bytes old new }
+    ensures one { (bytes : List ℕ) (old a b : List (List ℕ)) → IsTable bytes old a → IsTable bytes old b → a ≡ b }
+    ensures apart { (bytes : List ℕ) (old new : List (List ℕ)) → NoneTwice old → IsTable bytes old new → NoneTwice new }
 {}

@@ -11,6 +11,8 @@
 //!   the metagrammar of each of its trees, and `specs/Complaints` the complaints, in the order of the
 //!   text: an attribute that stands a second time in a list, and the first class that is too many.
 //! - `specs/Answers` says which answer is right for the bytes under a table of names.
+//! - `specs/Tables` says which table of names is right behind the bytes, from the one before: the texts
+//!   of words, strings and variables that are new stand behind the old ones, in the order of the text.
 //!
 //! # How it is done
 //!
@@ -27,9 +29,10 @@
 //!
 //! - [`read_metagrammar`] answers with `IsMetagrammar` of `specs/Answers`, or with the one refusal
 //!   that is right, or for want of memory. The table of names only grows, by no more texts than there
-//!   are bytes.
+//!   are bytes, and but for want of memory it is the one that `IsTable` of `specs/Tables` allows.
 //! - [`laws`]: what is spelled is a text of the grammar without complaints, and the other way round;
-//!   and for a table in which no text stands twice one answer is right.
+//!   for a table in which no text stands twice one answer is right; and for each text and table before
+//!   it just one table is right behind it, in which no text stands twice where none did before.
 #![tactic(auto)]
 
 mod answer;

@@ -6,4 +6,4 @@ pub cut-init : goal.cut-init
 cut-init c = subst (λ z. HasRead c.args.bytes.now c.args.symbols.now c.args.symbols.now c.args.tokens.now c.args.tokens.now z) (sym c.in_ok-found.ensures.items) (read_none c.args.bytes.now c.args.symbols.now c.args.tokens.now c.requires.text c.requires.written)
 
 pub cut-preserved : goal.cut-preserved
-cut-preserved c = read_more _ _ _ _ _ _ _ _ _ _ c.cut.invariant c.in-Some.ensures.cases.0 c.in_ok-next.ensures.grows c.in_ok-next.ensures.few c.in_ok-next.ensures.is c.in_ok-_pushed.ensures.items
+cut-preserved c = read_more _ _ _ _ _ _ _ _ _ _ c.cut.invariant c.in-Some.ensures.cases.0 c.in_ok-next.ensures.grows c.in_ok-next.ensures.few c.in_ok-next.ensures.is c.in_ok-next.ensures.numbered c.in_ok-_pushed.ensures.items

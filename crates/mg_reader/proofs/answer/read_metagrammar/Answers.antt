@@ -1,14 +1,17 @@
-use Rattle.std.proofs.Common.{arith, sym, ap, subst, length}
+use Rattle.std.proofs.Common.{rules, ◌≡◌, ◌⊎◌, arith, sym, ap, subst, length, IfErr, Err}
 use Rattle.gr_reader.proofs.Texts.{all_have, all_written}
 use Rattle.gr_base.specs.Lists.{Each}
 use Rattle.gr_reader.specs.Lexemes.{HasText, lexeme_of}
+use Rattle.gr_tokens.specs.declared.ReadRefusal.TheVariants.{Memory}
 use Rattle.gr_tokens.specs.Spans.{slice_of}
 use Rattle.gr_tokens.specs.Tokens.{Writes}
 use Rattle.gr_grammar.specs.Readings.{IsReading}
 use Rattle.mg_reader.specs.Kinds.{turn}
 use Rattle.mg_reader.specs.Grammar.{system, metagrammar_text}
 use Rattle.mg_reader.specs.Answers.{reading_of}
+use Rattle.mg_reader.specs.Tables.{IsTable}
 use Rattle.mg_reader.proofs.Cutting.{tokens_few}
+use Rattle.mg_reader.proofs.Numbering.{refused_table}
 use Rattle.mg_reader.proofs.Finish.{lexemes_are, accepted_right, right_ok, right_err}
 use Rattle.mg_reader.proofs.answer.read_metagrammar.Goals as goal
 
@@ -35,3 +38,8 @@ returns-in-Ok-clause-ok c = right_ok _ _ _ (accepted_right _ _ _ (lexemes_are c.
 
 pub returns-in-Ok-clause-err : goal.returns-in-Ok-clause-err
 returns-in-Ok-clause-err c = right_err _ _ _ (accepted_right _ _ _ (lexemes_are c.args.bytes.now _ c.in_ok-cut.cut.items c.as_slice.result.now c.in_ok-found.found.items c.as_slice-2.result.now c.in_ok-cut.ensures.ok c.as_slice.ensures.value c.as_slice-2.ensures.value c.in_ok-found.ensures.are) c.in-Ok.whole (subst (λ z. IsReading system turn 200 metagrammar_text (λ ts rest m. reading_of m) c.as_slice-2.result.now z) c.in-Ok.is c.in_ok-read.ensures) c.accepted.ensures)
+
+pub returns-in_err-cut-clause-refused_table : goal.returns-in_err-cut-clause-refused_table
+returns-in_err-cut-clause-refused_table c =
+    let e : c.from_residual.result ≡ Err c.in_err-cut.field-0.0 = search rules in
+    subst (λ z. IfErr z (λ r. (r ≡ Memory) ⊎ IsTable c.args.bytes.now c.args.symbols.now c.args.symbols.now)) (sym e) (refused_table c.args.bytes.now c.args.symbols.now _ c.in_err-cut.ensures.err)

@@ -13,3 +13,4 @@ pub mod Exploring
 pub mod Texts
 pub mod Solving
 pub mod Adding
+pub mod SketchLemmas

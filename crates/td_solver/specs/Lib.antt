@@ -5,3 +5,4 @@ pub mod Candidates
 pub mod Choices
 pub mod Tasks
 pub mod Turns
+pub mod Sketches

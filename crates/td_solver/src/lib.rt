@@ -45,7 +45,11 @@ mod candidates;
 mod holds;
 pub mod laws;
 mod search;
+#[cfg(test)]
+mod sketch;
 mod task;
+#[cfg(test)]
+mod tests;
 mod ties;
 
 use crate::search::{State, explore};

@@ -1,0 +1,9 @@
+pub mod Known
+pub mod Naming
+pub mod Fitting
+pub mod Zipped
+pub mod Carried
+pub mod Gone
+pub mod Searching
+pub mod Ending
+pub mod Uniqueness

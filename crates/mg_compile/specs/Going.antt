@@ -1,0 +1,59 @@
+-- Where the walk over the expansions of a class stands.
+use Rattle.std.specs.Prelude.{◌≡◌, ℕ, ◌+◌, ◌<◌, ◌≤◌, List, [], length, sum, take, Bool, true, false, Some, slice_get}
+use Rattle.std.specs.List.{AllZip}
+use Rattle.gr_base.specs.Lists.{IsAmong, Each}
+use Rattle.gr_terms.specs.declared.Sym.{Sym}
+use Rattle.mg_syntax.specs.declared.item.Item.{Item}
+use Rattle.td_canon.specs.CanonicalTexts.{text_in}
+use Rattle.td_canon.specs.TreeSets.{Entry, IsWhole, texts_of}
+use Rattle.td_desc.specs.Descriptions.{Description}
+use Rattle.td_solver.specs.Solutions.{IsSolutionText}
+use Rattle.mg_facts.specs.declared.variable.Variable.{Variable}
+use Rattle.mg_facts.specs.Said.{Slot}
+use Rattle.mg_expand.specs.Walks.{Walk, AreExpansions}
+use Rattle.mg_expand.specs.Progress.{Progress}
+use Rattle.mg_compile.specs.declared.found.Found.{Found}
+use Rattle.mg_compile.specs.Compiled.{Describes, IsCompiledText, IsExpansionTotal, IsFaultless}
+
+-- the texts of the first k expansions are all there
+abbrev pub HasTextsOf : List (List ℕ) → List Item → List Walk → ℕ → List Entry → Type 0
+HasTextsOf texts m ws k trees =
+    (n : ℕ) (w : Walk) (d : Description Variable Slot) (bytes : List ℕ) → n < k → slice_get ws n ≡ Some w → Describes m w d
+    → IsSolutionText (text_in texts) d bytes → IsAmong (texts_of trees) bytes
+
+-- what was spent are the steps of the first k expansions
+abbrev pub IsPaid : List Item → ℕ → List Walk → ℕ → ℕ → Type 0
+IsPaid m budget ws k left = (totals : List ℕ) → AllZip (IsExpansionTotal m) (take k ws) totals → budget ≡ left + k + sum totals
+
+-- the steps of all expansions are more than the budget
+abbrev pub IsPast : List Item → ℕ → List Walk → Type 0
+IsPast m budget ws = (totals : List ℕ) → AllZip (IsExpansionTotal m) ws totals → budget < length ws + sum totals
+
+pub record IsUncut (texts : List (List ℕ)) (m : List Item) (budget : ℕ) (ws : List Walk) (k : ℕ) (f : Found) : Type 0 where
+  pub all : HasTextsOf texts m ws k f.trees
+  pub paid : IsPaid m budget ws k f.left.left
+  pub within : f.left.left + k ≤ budget
+
+pub record IsCut (m : List Item) (budget : ℕ) (ws : List Walk) (f : Found) : Type 0 where
+  pub past : IsPast m budget ws
+  pub none : f.left.left ≡ 0
+
+abbrev pub IsListed : Bool → List (List ℕ) → List Item → ℕ → List Walk → ℕ → Found → Type 0
+IsListed false texts m budget ws k f = IsUncut texts m budget ws k f
+IsListed true texts m budget ws k f = IsCut m budget ws f
+
+-- what was found of the first k expansions, where ws are all of the class
+pub record HasGone (texts : List (List ℕ)) (m : List Item) (c : Sym) (budget : ℕ) (ws : List Walk) (k : ℕ) (f : Found) : Type 0 where
+  pub only : Each (IsCompiledText (text_in texts) m c) (texts_of f.trees)
+  pub empty : budget ≡ 0 → f.trees ≡ []
+  pub faultless : (n : ℕ) (w : Walk) → n < k → slice_get ws n ≡ Some w → IsFaultless m c w
+  pub listed : IsListed f.cut texts m budget ws k f
+
+-- an expander that gave its first expansions without a refusal, with what may still be looked at
+pub record IsOnWay (texts : List (List ℕ)) (m : List Item) (c : Sym) (budget : ℕ) (p : Progress) (looks : ℕ) (f : Found) : Type 0 where
+  pub metagrammar : p.metagrammar ≡ m
+  pub class : p.class ≡ c
+  pub too_large : p.too_large ≡ false
+  pub looked : looks + p.given ≡ budget
+  pub whole : IsWhole texts f.trees
+  pub gone : (ws : List Walk) → AreExpansions m c ws → HasGone texts m c budget ws p.given f

@@ -1,108 +1,122 @@
--- How runs end.
-use Rattle.std.specs.Prelude.{◌≡◌, ℕ, suc, ◌+◌, ◌<◌, List, [], ◌∷◌, ◌++◌, length, take, Option, Some, None, Result, Ok, Err, IfOk, codes, string_bytes, refl}
-use Rattle.std.proofs.Common.{ap, ap₂, sym, ◌∙◌, subst, arith, inl, inr, get_or, length-take}
+-- What is right for the words of a run.
+use Rattle.std.specs.Prelude.{◌≡◌, ℕ, ◌+◌, ◌<◌, ◌≤◌, List, [], ◌∷◌, ◌++◌, length, take, Option, Some, None, Result, Ok, Err, IfOk, ◌⊎◌, refl, codes, string_bytes}
+use Rattle.std.specs.Str.Parse.{digits_value}
+use Rattle.std.proofs.Common.{ap, sym, ◌∙◌, subst, arith, inl, inr, length-take}
 use Rattle.std.proofs.lemmas.Bool.{cases_lt}
-use Rattle.std.proofs.lemmas.List.{append_assoc, take_all}
-use Rattle.gr_base.specs.Lists.{Each}
-use Rattle.gr_base.specs.Forests.{Forest, empty, tree, IsOneTree, size, AreAlike}
-use Rattle.gr_base.proofs.ForestLemmas.{IsOneTree-alike}
-use Rattle.gr_io.specs.Outside.{IsFetched}
-use Rattle.gr_symbols.specs.Numbers.{Names}
-use Rattle.gr_symbols.proofs.NumberLemmas.{one_text}
-use Rattle.gr_terms.specs.Canonical.{Node}
-use Rattle.gr_terms.specs.declared.Sym.{Sym}
-use Rattle.gr_terms.specs.declared.Term.{Term}
-use Rattle.rl_top.specs.OneBlock.{Blocks, Pairs}
-use Rattle.rl_top.specs.Outcomes.{AsksCompile, IsOutcome, compiled, too_long, not_yet, IsRight, grammar_text}
-use Rattle.rl_top.specs.TreeText.{IsTreeText, category_of}
-use Rattle.rl_top.specs.Trees.{BagPairs, NamesBag, NamesNode, NamesPair, StandFor, preorder}
-use Rattle.rl_top.specs.Writing.{IsNamed, IsNamedNode, IsTextOf}
-use Rattle.rl_top.specs.declared.tree.TreeNode.{TreeNode}
+use Rattle.std.proofs.lemmas.List.{take_all}
+use Rattle.gr_base.proofs.ListLemmas.{same_head, same_tail}
+use Rattle.gr_io.specs.Outside.{IsFetched, appended}
+use Rattle.gr_symbols.specs.Numbers.{first_texts}
+use Rattle.rl_words.specs.Requests.{AsksCompile, IsFileWord, IsModelsBudget, Splits, nothing, a_file, an_option, models_word}
+use Rattle.rl_refusals.specs.declared.refusal.Refusal.{Refusal}
+use Rattle.rl_refusals.specs.Lines.{IsRefusalLine}
+use Rattle.gr_base.specs.declared.Memory.{Memory}
+use Rattle.mg_syntax.specs.declared.item.Item.{Item}
+use Rattle.tg_text.specs.GrammarText.{ClassText, grammar_text}
+use Rattle.rl_top.specs.Outcomes.{IsNumbering, IsGood, IsFirstRefusal, too_long, unread, unscoped, uncompiled, AreClassTexts, IsEnding, IsOutcome, refused, compiled, IsEnough, Tells, IsRight, WritesWhole}
+use Rattle.rl_top.specs.Compiling.{IsRefusedFile}
 use Rattle.rl_top.specs.declared.outcome.Outcome.{Outcome}
 use Rattle.rl_top.specs.declared.status.Status.{Status}
-use Rattle.rl_top.specs.declared.status.Status.TheVariants.{Refused}
-use Rattle.gr_base.specs.declared.Memory.{Memory}
-use Rattle.gr_base.proofs.ListLemmas.{Each-members, Each-append}
-use Rattle.rl_top.proofs.OnceLaws.{one_block_text}
-use Rattle.rl_top.proofs.WritingLaws.{one_tree_text, text_for_blocks}
+use Rattle.rl_top.specs.declared.status.Status.TheVariants as status
+use Rattle.rl_top.proofs.Laws.{NotShortened}
 
--- two words
-pub two_words : (xs : List (List ℕ)) (a b : List ℕ) → length xs ≡ 2 → a ≡ get_or xs 0 a → b ≡ get_or xs 1 b → xs ≡ a ∷ b ∷ []
-two_words [] a b n p q = absurd (omega arith)
-two_words (x ∷ []) a b n p q = absurd (omega arith)
-two_words (x ∷ y ∷ []) a b n p q = λ i. sym p i ∷ sym q i ∷ []
-two_words (x ∷ y ∷ z ∷ xs) a b n p q = absurd (omega arith)
+-- words are split in one way
+first_word : (ws vs : List (List ℕ)) (w v : List ℕ) → w ∷ ws ≡ v ∷ vs → (w ≡ v) × (ws ≡ vs)
+first_word ws vs w v e = (same_head w v ws vs e, same_tail w v ws vs e)
 
--- bags that stand for pairs have names only
-bag_named : (texts : List (List ℕ)) (bag : BagPairs) (ps : Pairs) → NamesBag texts bag ps → IsNamed texts bag
-bag_named texts bag ps h = Each-members (λ (p : Sym × Term). (q : List ℕ × List ℕ) × NamesPair texts p q) bag (λ p i. let r = h.all p i in (r.0, r.2))
+no_option_file : (w : List ℕ) → w ≡ models_word → IsFileWord w → ⊥
+no_option_file w is file = subst (λ z. IsFileWord z) is file refl
 
--- nodes that stand for blocks have names only
-nodes_named : (texts : List (List ℕ)) (n : ℕ) (p : Option ℕ) (blocks : Blocks) (f : Forest (Node BagPairs)) → AreAlike (NamesNode texts) blocks f → Each (IsNamedNode texts) (preorder n p f)
-nodes_named texts n p empty empty h = tt
-nodes_named texts n p empty (tree b kids more) h = absurd h
-nodes_named texts n p (tree fs k m) empty h = absurd h
-nodes_named texts n p (tree fs k m) (tree b kids more) h = (
-  record { own = (category_of fs, h.0.own); top = bag_named texts b.top _ h.0.top; bot = bag_named texts b.bottom _ h.0.bottom },
-  Each-append (IsNamedNode texts) (preorder (suc n) (Some n) kids) (preorder (suc n + size kids) p more)
-      (nodes_named texts (suc n) (Some n) k kids h.1) (nodes_named texts (suc n + size kids) p m more h.2),
-)
+record SameSplit (files others : List (List ℕ)) (options more : List (List ℕ × List ℕ)) : Type 0 where
+  files_same : files ≡ others
+  options_same : options ≡ more
 
-pub stand_named : (texts : List (List ℕ)) (blocks : Blocks) (nodes : List TreeNode) → StandFor texts 0 None blocks nodes → Each (IsNamedNode texts) nodes
-stand_named texts blocks nodes h = subst (λ z. Each (IsNamedNode texts) z) (sym h.2) (nodes_named texts 0 None blocks h.0 h.1)
+split_once : (words again files others : List (List ℕ)) (options more : List (List ℕ × List ℕ)) → Splits words files options → Splits again others more → words ≡ again → SameSplit files others options more
+split_once _ _ _ _ _ _ nothing nothing e = record { files_same = refl; options_same = refl }
+split_once _ _ _ _ _ _ nothing (a_file w is rest) e = absurd cc
+split_once _ _ _ _ _ _ nothing (an_option w v is rest) e = absurd cc
+split_once _ _ _ _ _ _ (a_file w is rest) nothing e = absurd cc
+split_once _ _ _ _ _ _ (a_file w {ws = ws} {files = files} {options = options} is rest) (a_file v {ws = vs} {files = others} {options = more} is' rest') e =
+    let parts = first_word ws vs w v e in
+    let behind = split_once ws vs files others options more rest rest' parts.1 in
+    record { files_same = cc (parts.0, behind.files_same); options_same = behind.options_same }
+split_once _ _ _ _ _ _ (a_file w {ws = ws} is rest) (an_option u v {ws = vs} is' rest') e =
+    absurd (no_option_file w ((first_word ws (v ∷ vs) w u e).0 ∙ is') is)
+split_once _ _ _ _ _ _ (an_option w v is rest) nothing e = absurd cc
+split_once _ _ _ _ _ _ (an_option u v {ws = ws} is rest) (a_file w {ws = vs} is' rest') e =
+    absurd (no_option_file w (sym (first_word (v ∷ ws) vs u w e).0 ∙ is) is')
+split_once _ _ _ _ _ _ (an_option w v {ws = ws} {files = files} {options = options} is rest) (an_option w' v' {ws = vs} {files = others} {options = more} is' rest') e =
+    let outer = first_word (v ∷ ws) (v' ∷ vs) w w' e in
+    let inner = first_word ws vs v v' outer.1 in
+    let behind = split_once ws vs files others options more rest rest' inner.1 in
+    record { files_same = behind.files_same; options_same = cc (outer.0, inner.0, behind.options_same) }
 
--- the grammar's text where the tree's text was written
-pub grammar_is : (texts : List (List ℕ)) (blocks : Blocks) (nodes : List TreeNode) (sym_ : ℕ) (name found tree_ : List ℕ) → IsOneTree blocks → StandFor texts 0 None blocks nodes → Names texts sym_ name → Names texts sym_ found →
-    ((f : Forest (Node BagPairs)) → IsOneTree f → nodes ≡ preorder 0 None f → IsTextOf texts f tree_) → IsTreeText blocks tree_ × (found ≡ name)
-grammar_is texts blocks nodes s name found t one stand a b written =
-    (text_for_blocks texts blocks stand.0 t stand.1 (written stand.0 (IsOneTree-alike (NamesNode texts) blocks stand.0 stand.1 one) stand.2), one_text texts s found name b a)
+budget_once : (options : List (List ℕ × List ℕ)) (a b : ℕ) → IsModelsBudget options a → IsModelsBudget options b → a ≡ b
+budget_once options a b (inl p) (inl q) = p.1 ∙ sym q.1
+budget_once options a b (inl p) (inr q) = absurd cc
+budget_once options a b (inr p) (inl q) = absurd cc
+budget_once options a b (inr (v, is, p)) (inr (w, is', q)) =
+    let same : v ≡ w = ap (λ (p : List ℕ × List ℕ). p.1) (same_head (models_word, v) (models_word, w) [] [] (sym is ∙ is')) in
+    p.value ∙ (ap (λ z. digits_value 10 z) same ∙ sym q.value)
 
--- a grammar's text, from front to end
-pub grammar_spelled : (name tree_ : List ℕ) → codes "grammar 1\nclass " ++ (name ++ (codes "\ntree 1 " ++ (tree_ ++ codes "\ntrees 1\nend\n"))) ≡ grammar_text name tree_
-grammar_spelled name t = sym (ap (λ z. codes "grammar 1\nclass " ++ z)
-    (append_assoc (name ++ 10 ∷ [] ++ (codes "tree 1 " ++ (t ++ 10 ∷ []))) (codes "trees 1\n") (codes "end\n")
-    ∙ append_assoc (name ++ 10 ∷ []) (codes "tree 1 " ++ (t ++ 10 ∷ [])) (codes "trees 1\nend\n")
-    ∙ append_assoc name (10 ∷ []) (codes "tree 1 " ++ (t ++ 10 ∷ [] ++ codes "trees 1\nend\n"))
-    ∙ ap (λ z. name ++ (codes "\ntree 1 " ++ z)) (append_assoc t (10 ∷ []) (codes "trees 1\nend\n"))))
-
--- a refusal's line is the text
-pub refused : (r : Result Outcome Memory) (bytes text : List ℕ) → IfOk r (λ o. o.status ≡ Refused) → IfOk r (λ o. string_bytes o.text ≡ text) → IsOutcome bytes Refused text → IfOk r (λ o. IsOutcome bytes o.status (string_bytes o.text))
-refused (Ok o) bytes text a b h = subst (λ s. IsOutcome bytes s (string_bytes o.text)) (sym a) (subst (λ z. IsOutcome bytes Refused z) (sym b) h)
-refused (Err e) bytes text a b h = tt
+-- words ask for one file and one budget
+pub one_request : (words : List (List ℕ)) (f g : List ℕ) (a b : ℕ) → AsksCompile words f a → AsksCompile words g b → (f ≡ g) × (a ≡ b)
+one_request words f g a b p q =
+    let rest = (first_word p.rest q.rest (codes "compile") (codes "compile") (sym p.command ∙ q.command)).1 in
+    let same = split_once p.rest q.rest (f ∷ []) (g ∷ []) p.options q.options p.split q.split rest in
+    (same_head f g [] [] same.files_same, budget_once q.options a b (subst (λ z. IsModelsBudget z a) same.options_same p.budget) q.budget)
 
 -- what is right for a file that was cut behind its limit is right for the file
-outcome_of_cut : (whole cut : List ℕ) (s : Status) (t : List ℕ) → cut ≡ take 1048577 whole → IsOutcome cut s t → IsOutcome whole s t
-outcome_of_cut whole cut s t e h = elim (cases_lt (length whole) 1048577) [
-  | inl short ↦ subst (λ z. IsOutcome z s t) (e ∙ take_all 1048577 whole (omega arith)) h
-  | inr long ↦ cut_long (omega (arith, length-take 1048577 whole, ap length e)) h
+outcome_of_cut : (whole cut : List ℕ) (models : ℕ) (s : Status) (t : List ℕ) → cut ≡ take 1048577 whole → IsOutcome cut models s t → IsOutcome whole models s t
+outcome_of_cut whole cut models s t e h = elim (cases_lt (length whole) 1048577) [
+  | inl short ↦ subst (λ z. IsOutcome z models s t) (e ∙ take_all 1048577 whole (omega arith)) h
+  | inr long ↦ cut_long (omega (arith, length-take 1048577 whole, ap length e)) (omega arith) h
 ]
   where
-    cut_long : {s : Status} {t : List ℕ} → 1048576 < length cut → IsOutcome cut s t → IsOutcome whole s t
-    cut_long long (compiled name tree_ blocks short is text) = absurd (omega arith)
-    cut_long long (too_long n) = too_long (omega (arith, length-take 1048577 whole, ap length e))
-    cut_long long (not_yet short none) = absurd (omega arith)
+    cut_long : 1048576 < length cut → 1048576 < length whole → IsOutcome cut models s t → IsOutcome whole models s t
+    cut_long long more (compiled texts m classes numbered good written text_is ending) = let short = good.short in absurd (omega arith)
+    cut_long long more (refused texts r numbered first line is) =
+        refused texts r (record { short = λ short. absurd (omega arith); long = λ _. numbered.long long }) (refusal_of first) line is
+      where
+        refusal_of : IsFirstRefusal cut models texts r → IsFirstRefusal whole models texts r
+        refusal_of (too_long n is) = too_long more is
+        refusal_of (unread e short fault is) = absurd (omega arith)
+        refusal_of (unscoped m e short spelled fault is) = absurd (omega arith)
+        refusal_of (uncompiled m e good fault is) = let short = good.short in absurd (omega arith)
 
 -- the right outcome for the bytes that were fetched is right for the words
-pub right_for : (files : Option (List ℕ → Option (List ℕ))) (words : List (List ℕ)) (file name fetched : List ℕ) (s : Status) (t : List ℕ) → AsksCompile words file → name ≡ file → IsFetched files name 1048576 fetched → IsOutcome fetched s t → IsRight files words s t
-right_for None words file name fetched s t asks same got h = record { file = file; bytes = fetched; asked = asks; held = tt; outcome = h }
-right_for (Some files) words file name fetched s t asks same got h = record {
+pub right_for : (files : Option (List ℕ → Option (List ℕ))) (words : List (List ℕ)) (file name fetched : List ℕ) (models : ℕ) (s : Status) (t : List ℕ) → AsksCompile words file models → name ≡ file → IsFetched files name 1048576 fetched → IsOutcome fetched models s t → IsRight files words s t
+right_for None words file name fetched models s t asks same got h = record { file = file; models = models; bytes = fetched; asked = asks; held = tt; outcome = h }
+right_for (Some files) words file name fetched models s t asks same got h = record {
   file = file;
+  models = models;
   bytes = got.0;
   asked = asks;
   held = ap files (sym same) ∙ got.1;
-  outcome = outcome_of_cut got.0 fetched s t got.2 h;
+  outcome = outcome_of_cut got.0 fetched models s t got.2 h;
 }
 
--- one status and one text are right
-pub outcome_once : (bytes text other : List ℕ) (s t : Status) → IsOutcome bytes s text → IsOutcome bytes t other → (s ≡ t) × (text ≡ other)
-outcome_once bytes _ _ _ _ (compiled name x f short is text) (compiled other y g short' is' text') =
-    let same = one_block_text bytes name other f g is is' in
-    (refl, ap₂ (λ n z. grammar_text n z) same.0 (one_tree_text g x y (subst (λ z. IsTreeText z x) same.1 text) text'))
-outcome_once bytes _ _ _ _ (compiled name x f short is text) (too_long n) = absurd (omega arith)
-outcome_once bytes _ _ _ _ (compiled name x f short is text) (not_yet n none) = absurd (none name f is)
-outcome_once bytes _ _ _ _ (too_long n) (compiled name x f short is text) = absurd (omega arith)
-outcome_once bytes _ _ _ _ (too_long n) (too_long m) = (refl, refl)
-outcome_once bytes _ _ _ _ (too_long n) (not_yet short none) = absurd (omega arith)
-outcome_once bytes _ _ _ _ (not_yet n none) (compiled name x f short is text) = absurd (none name f is)
-outcome_once bytes _ _ _ _ (not_yet n none) (too_long m) = absurd (omega arith)
-outcome_once bytes _ _ _ _ (not_yet n none) (not_yet m none') = (refl, refl)
+-- a text that was written whole with its status
+pub writes_whole : (files : Option (List ℕ → Option (List ℕ))) (words : List (List ℕ)) (s wanted : Status) (text written : List ℕ) (before after : Option (List ℕ)) → IsRight files words s text → s ≡ wanted
+    → after ≡ appended before written → written ≡ text → WritesWhole files words wanted before after
+writes_whole files words s wanted text written before after right e whole same = (text, subst (λ z. IsRight files words z text) e right, whole ∙ ap (λ z. appended before z) same)
+
+-- no list is shorter where the shelf tells the file and the budget is enough
+pub never_shorter : NotShortened → (files : Option (List ℕ → Option (List ℕ))) (words : List (List ℕ)) (file bytes : List ℕ) (models : ℕ) (s : Status) (text : List ℕ) → IsRight files words s text → AsksCompile words file models → Tells files file bytes → IsEnough bytes models → s ≡ status.Shortened → ⊥
+never_shorter not_shortened None words file bytes models s text right asks tells enough e = absurd tells
+never_shorter not_shortened (Some files) words file bytes models s text right asks tells enough e =
+    let same = one_request words right.file file right.models models right.asked asks in
+    let told : files file ≡ Some right.bytes = subst (λ z. files z ≡ Some right.bytes) same.0 right.held in
+    let bytes_same : right.bytes ≡ bytes = cc (told, tells) in
+    not_shortened bytes text models s enough (subst (λ z. IsOutcome z models s text) bytes_same (subst (λ z. IsOutcome right.bytes z s text) same.1 right.outcome)) e
+
+-- the outcomes of what was compiled, and of what was refused
+pub compiled_outcome : (r : Result Outcome Memory) (bytes : List ℕ) (models : ℕ) (texts : List (List ℕ)) (m : List Item) (ts : List ClassText) → IsNumbering bytes texts → IsGood bytes texts m → AreClassTexts texts m models ts
+    → IfOk r (λ o. string_bytes o.text ≡ grammar_text ts) → IfOk r (λ o. IsEnding ts o.status) → IfOk r (λ o. IsOutcome bytes models o.status (string_bytes o.text))
+compiled_outcome (Ok o) bytes models texts m ts numbered good written text ends = compiled texts m ts numbered good written text ends
+compiled_outcome (Err e) bytes models texts m ts numbered good written text ends = tt
+
+pub refused_outcome : (r : Result Outcome Memory) (bytes : List ℕ) (models : ℕ) (texts : List (List ℕ)) (x : Refusal) → IsRefusedFile bytes models texts x
+    → IfOk r (λ o. IsRefusalLine texts x (string_bytes o.text)) → IfOk r (λ o. o.status ≡ status.Refused) → IfOk r (λ o. IsOutcome bytes models o.status (string_bytes o.text))
+refused_outcome (Ok o) bytes models texts x file line ends = refused texts x file.numbered file.first line ends
+refused_outcome (Err e) bytes models texts x file line ends = tt

@@ -1,8 +1,4 @@
-pub mod Tokens
-pub mod OneBlock
-pub mod TreeText
+pub mod Refusals
 pub mod Outcomes
-pub mod Views
-pub mod Trees
-pub mod Reading
-pub mod Writing
+pub mod Stops
+pub mod Compiling

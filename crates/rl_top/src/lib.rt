@@ -1,67 +1,89 @@
 //! The top call of xmgeni: words, files and a place for text in, a status out.
 //!
-//! [`run_one`] is all that the program does. Today it has one command, `compile FILE`, for
-//! metagrammars of one class with one nested node block: `specs/OneBlock` says which texts these
-//! are, `specs/TreeText` what their tree's canonical text is, and `specs/Outcomes` which status
-//! and text are right for a file. The contract of `run_one` says that a run ends right, and when
-//! each other status comes.
+//! [`run_one`] is all that the program does. Its one command is `compile MG`, with the option
+//! `--models N`. It reads the metagrammar in the file MG and writes the trees of all its valued
+//! classes, or the line of one refusal.
 //!
-//! Inside, `words` reads the words, `tokens` and `reader` a metagrammar, `features` what a node
-//! has, `tree` and `canonical` are the tree and its text, and `outcome` puts them together.
+//! # What is right
+//!
+//! `specs/Outcomes` says which status and which text are right for the bytes of a file under a
+//! budget (`IsOutcome`). It is the statement that the program stands for, and puts together the
+//! statements of the crates below:
+//!
+//! - The first refusal (`IsFirstRefusal`) is one line, and nothing else is written. It is that the
+//!   file is too long, or else that it can't be read, or else the first fault against the rules of
+//!   scope, or else the fault of the first valued class that has one.
+//! - Where there is no refusal, the text has all valued classes in the order of their first
+//!   valuations, each with the canonical texts of the trees of all minimal models of all its
+//!   expansions, each once, in byte order. A list may be shorter only where the steps of its class
+//!   are more than the budget; then it says so, and the status is `Shortened`.
+//! - Names are numbered by their first places in the file, so the bytes and the budget fix what is
+//!   right. [`one_outcome`] says how far: whether the file is refused, and the refusal; and all of
+//!   the text, where the budget reaches the steps of each class.
+//!
+//! # How
+//!
+//! `compiling` goes from the bytes to the trees of the valued classes: it reads, resolves, and
+//! compiles one class after another. `refusals` has why it stops, in the words of `rl_refusals`,
+//! and `outcome` makes the text, whole, from the trees or from the refusal. Only then is the first
+//! byte written, so a refusal's line stands alone.
 #![tactic(auto)]
 
-mod canonical;
-mod features;
+mod compiling;
 mod outcome;
-mod reader;
+mod refusals;
 mod status;
 #[cfg(test)]
 mod tests;
-mod tokens;
-mod tree;
-mod words;
 
 ghost use Rattle.std.specs.Prelude.{◌≡◌, ◌≢◌, ◌↔◌, ℕ, List, IsTrue, ◌<◌, ◌≤◌, ◌⊎◌};
 ghost use Rattle.gr_io.specs.Outside.{Rose};
-ghost use Rattle.rl_top.specs.Outcomes.{AsksCompile, IsOutcome, WritesFront, WritesWhole};
+ghost use Rattle.rl_words.specs.Requests.{AsksCompile};
+ghost use Rattle.rl_top.specs.Outcomes.{IsEnough, IsOutcome, Tells, WritesFront, WritesWhole};
 ghost use Rattle.rl_top.specs.declared.status.Status.{Status as Ending};
 
-use crate::outcome::{BYTE_LIMIT, compile};
-use crate::words::asked_file;
+use crate::compiling::BYTE_LIMIT;
+use crate::outcome::outcome_of;
 use gr_io::{FetchFault, Shelf, Sink, write_all_of};
 use gr_text::Name;
+use mg_compile::laws::{one_compiled_list, one_fault, steps_are_enough};
+use mg_reader::laws::{one_answer, one_table};
+use rl_refusals::laws::one_line;
+use rl_words::compile_request;
 pub use status::Status;
 use std::alloc::Global;
 
 /// Runs the program: the words behind its name, the files, and where text goes.
 ///
-/// The one row of words is `compile` and a file word, which isn't empty and doesn't begin with
-/// `-`. The file is fetched at file number 0, where the shelf serves it. All is read before the
-/// first byte is written, so a refusal's line stands alone.
+/// The words are those of `rl_words`. The file is fetched at file number 0, where the shelf serves
+/// it. All is compiled before the first byte is written.
 pub fn run_one<H: Shelf, K: Sink>(
     alloc: Global,
     words: &[Name],
     shelf: &mut H,
     out: &mut K,
 ) -> Status
-    requires { (file : List ℕ) → AsksCompile words.now file → IsTrue (H.serves shelf.old 0 file) }
+    requires { (file : List ℕ) (models : ℕ) → AsksCompile words.now file models → IsTrue (H.serves shelf.old 0 file) }
 
     // On other words, and on no others, the words are refused, and the outside isn't called.
-    ensures words { (result ≡ Status.WordsRefused) ↔ ((file : List ℕ) → AsksCompile words.now file → ⊥) }
+    ensures words { (result ≡ Status.WordsRefused) ↔ ((file : List ℕ) (models : ℕ) → AsksCompile words.now file models → ⊥) }
     ensures untouched { result ≡ Status.WordsRefused → (shelf.new ≡ shelf.old) × (out.new ≡ out.old) }
 
     // The whole of a right text was written.
     ensures done { result ≡ Status.Done → WritesWhole (H.files shelf.old) words.now Status.Done (K.written out.old) (K.written out.new) }
+    ensures shortened { result ≡ Status.Shortened → WritesWhole (H.files shelf.old) words.now Status.Shortened (K.written out.old) (K.written out.new) }
     ensures refused { result ≡ Status.Refused → WritesWhole (H.files shelf.old) words.now Status.Refused (K.written out.old) (K.written out.new) }
-    ensures never_shortened { result ≢ Status.Shortened }
+
+    // No list is shorter where the budget is enough for each class.
+    ensures enough { (file bytes : List ℕ) (models : ℕ) → AsksCompile words.now file models → Tells (H.files shelf.old) file bytes → IsEnough bytes models → result ≢ Status.Shortened }
 
     // A fault of the outside was counted by it, and none is passed over.
     ensures read_cause { result ≡ Status.ReadFault → Rose (H.faults shelf.old 0) (H.faults shelf.new 0) }
     ensures read_nothing { result ≡ Status.ReadFault → out.new ≡ out.old }
-    ensures reads_kept { (result ≡ Status.Done) ⊎ (result ≡ Status.Refused) ⊎ (result ≡ Status.WriteFault) ⊎ (result ≡ Status.Memory) → H.faults shelf.new 0 ≡ H.faults shelf.old 0 }
+    ensures reads_kept { (result ≡ Status.Done) ⊎ (result ≡ Status.Shortened) ⊎ (result ≡ Status.Refused) ⊎ (result ≡ Status.WriteFault) ⊎ (result ≡ Status.Memory) → H.faults shelf.new 0 ≡ H.faults shelf.old 0 }
     ensures write_cause { result ≡ Status.WriteFault → Rose (K.faults out.old) (K.faults out.new) }
     ensures write_front { result ≡ Status.WriteFault → WritesFront (H.files shelf.old) words.now (K.written out.old) (K.written out.new) }
-    ensures writes_kept { (result ≡ Status.Done) ⊎ (result ≡ Status.Refused) → K.faults out.new ≡ K.faults out.old }
+    ensures writes_kept { (result ≡ Status.Done) ⊎ (result ≡ Status.Shortened) ⊎ (result ≡ Status.Refused) → K.faults out.new ≡ K.faults out.old }
 
     // Without memory nothing was written.
     ensures memory { result ≡ Status.Memory → out.new ≡ out.old }
@@ -73,15 +95,16 @@ pub fn run_one<H: Shelf, K: Sink>(
     ensures reads_never_fall { H.faults shelf.old 0 ≤ H.faults shelf.new 0 }
     ensures writes_never_fall { K.faults out.old ≤ K.faults out.new }
 {
-    let Some(file) = asked_file(words) else {
+    one_outcome();
+    let Some(request) = compile_request(words) else {
         return Status::WordsRefused;
     };
-    let bytes = match shelf.fetch(alloc, 0, file.as_str(), BYTE_LIMIT) {
+    let bytes = match shelf.fetch(alloc, 0, request.file.as_str(), BYTE_LIMIT) {
         Ok(bytes) => bytes,
         Err(FetchFault::Failed) => return Status::ReadFault,
         Err(FetchFault::Memory) => return Status::Memory,
     };
-    let Ok(outcome) = compile(alloc, bytes.as_slice()) else {
+    let Ok(outcome) = outcome_of(alloc, bytes.as_slice(), request.models) else {
         return Status::Memory;
     };
     match write_all_of(out, outcome.text.as_bytes()) {
@@ -90,7 +113,18 @@ pub fn run_one<H: Shelf, K: Sink>(
     }
 }
 
-/// For the bytes of a file one status and one text are right.
+/// For the bytes of a file and a budget at most one refusal is right, and with it no other outcome.
+/// Where the budget is at least 1 and at least the steps of each valued class, at most one outcome
+/// is right at all, and no list of it is cut.
 pub fn one_outcome()
-    ensures { (bytes text other : List ℕ) (s t : Ending) → IsOutcome bytes s text → IsOutcome bytes t other → (s ≡ t) × (text ≡ other) }
-{}
+    ensures refusal { (bytes text other : List ℕ) (models : ℕ) (s : Ending) → IsOutcome bytes models Status.Refused text → IsOutcome bytes models s other → (s ≡ Status.Refused) × (text ≡ other) }
+    ensures enough { (bytes text other : List ℕ) (models : ℕ) (s t : Ending) → IsEnough bytes models → IsOutcome bytes models s text → IsOutcome bytes models t other → (s ≡ t) × (text ≡ other) }
+    ensures whole { (bytes text : List ℕ) (models : ℕ) (s : Ending) → IsEnough bytes models → IsOutcome bytes models s text → s ≢ Status.Shortened }
+{
+    one_answer();
+    one_table();
+    one_line();
+    one_fault();
+    steps_are_enough();
+    one_compiled_list();
+}

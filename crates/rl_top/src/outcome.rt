@@ -1,22 +1,20 @@
 //! What a run writes for a metagrammar.
-ghost use Rattle.std.specs.Prelude.{◌≡◌, ◌<◌, ℕ, List, None, IfOk, length, string_bytes};
-ghost use Rattle.gr_base.specs.Forests.{IsOneTree};
+ghost use Rattle.std.specs.Prelude.{◌≡◌, ◌<◌, ℕ, List, length, map, IfOk, string_bytes};
 ghost use Rattle.gr_base.specs.Lists.{Each};
-ghost use Rattle.gr_symbols.specs.Numbers.{Names};
-ghost use Rattle.rl_top.specs.OneBlock.{Blocks};
-ghost use Rattle.rl_top.specs.Outcomes.{IsOutcome, ended, grammar_text};
-ghost use Rattle.rl_top.specs.TreeText.{IsTreeText};
-ghost use Rattle.rl_top.specs.Trees.{StandFor};
-ghost use Rattle.rl_top.specs.Writing.{IsNamedNode};
+ghost use Rattle.rl_refusals.specs.Lines.{HasTexts, IsRefusalLine};
+ghost use Rattle.td_canon.specs.declared.tree_set.ClassTrees.{ClassTrees as Trees};
+ghost use Rattle.tg_text.specs.GrammarText.{class_text_of, grammar_text};
+ghost use Rattle.rl_top.specs.Outcomes.{IsEnding, IsOutcome};
 
-use crate::canonical::tree_text;
-use crate::reader::{Class, Stop, read};
+use crate::compiling::compiled;
+use crate::refusals::Stop;
 use crate::status::Status;
 use gr_base::Memory;
+use gr_symbols::Symbols;
+use rl_refusals::{Refusal, push_line};
 use std::alloc::Global;
-
-/// The most bytes of a file.
-pub const BYTE_LIMIT: usize = 1_048_576;
+use td_canon::ClassTrees;
+use tg_text::write_grammar;
 
 /// How a run ends, and what it writes.
 #[derive(Drop)]
@@ -25,47 +23,53 @@ pub struct Outcome {
     pub text: String,
 }
 
-/// The grammar of the class that was read.
-fn grammar(alloc: Global, class: &Class) -> Result<String, Memory>
-    requires name { class.now.name.0 < length class.now.symbols }
-    requires nodes { Each (IsNamedNode class.now.symbols) class.now.nodes }
-    ensures { IfOk result (λ text. (name : List ℕ) (blocks : Blocks) → Names class.now.symbols class.now.name.0 name → IsOneTree blocks → StandFor class.now.symbols 0 None blocks class.now.nodes
-        → (tree : List ℕ) × IsTreeText blocks tree × (string_bytes text ≡ grammar_text name tree)) }
+/// How a run ends that writes these classes.
+fn ending(classes: &[ClassTrees]) -> Status
+    ensures { (texts : List (List ℕ)) → IsEnding (map (class_text_of texts) classes.now) result }
 {
-    let name = class.symbols.text(class.name);
-    let tree = tree_text(alloc, &class.nodes, &class.symbols)?;
-    let text = format!(in alloc; "grammar 1\nclass {name}\ntree 1 {tree}\ntrees 1\nend\n")?;
-    Ok(text)
+    for class in classes {
+        if class.cut {
+            return Status::Shortened;
+        }
+    }
+    Status::Done
 }
 
-/// The refusal of this line.
-fn refusal(alloc: Global, line: &str) -> Result<Outcome, Memory>
-    ensures status { IfOk result (λ o. o.status ≡ Status.Refused) }
-    ensures text { IfOk result (λ o. string_bytes o.text ≡ ended line.now) }
+/// The outcome of classes that were compiled.
+fn written(alloc: Global, classes: &[ClassTrees], symbols: &Symbols) -> Result<Outcome, Memory>
+    requires { Each (λ (c : Trees). c.class.0 < length symbols.now) classes.now }
+    ensures text { IfOk result (λ o. string_bytes o.text ≡ grammar_text (map (class_text_of symbols.now) classes.now)) }
+    ensures status { IfOk result (λ o. IsEnding (map (class_text_of symbols.now) classes.now) o.status) }
 {
-    let text = format!(in alloc; "{line}\n")?;
+    let text = write_grammar(alloc, classes, symbols)?;
+    Ok(Outcome {
+        status: ending(classes),
+        text,
+    })
+}
+
+/// The outcome of a refusal.
+fn refused(alloc: Global, refusal: &Refusal, symbols: &Symbols) -> Result<Outcome, Memory>
+    requires { HasTexts symbols.now refusal.now }
+    ensures text { IfOk result (λ o. IsRefusalLine symbols.now refusal.now (string_bytes o.text)) }
+    ensures status { IfOk result (λ o. o.status ≡ Status.Refused) }
+{
+    let mut text = String::new(alloc);
+    push_line(&mut text, refusal, symbols)?;
     Ok(Outcome {
         status: Status::Refused,
         text,
     })
 }
 
-/// The right status and text for a metagrammar of these bytes.
-pub fn compile(alloc: Global, bytes: &[u8]) -> Result<Outcome, Memory>
-    ensures { IfOk result (λ o. IsOutcome bytes.now o.status (string_bytes o.text)) }
+/// The right status and text for a metagrammar of these bytes, under a budget for each class.
+pub fn outcome_of(alloc: Global, bytes: &[u8], models: u32) -> Result<Outcome, Memory>
+    ensures { IfOk result (λ o. IsOutcome bytes.now models o.status (string_bytes o.text)) }
 {
-    if BYTE_LIMIT < bytes.len() {
-        return refusal(alloc, "refused 12 metagrammar");
-    }
-    match read(alloc, bytes) {
-        Ok(class) => {
-            let text = grammar(alloc, &class)?;
-            Ok(Outcome {
-                status: Status::Done,
-                text,
-            })
-        }
-        Err(Stop::Other) => refusal(alloc, "refused 19 metagrammar 1 1"),
+    let mut symbols = Symbols::new(alloc)?;
+    match compiled(alloc, bytes, models, &mut symbols) {
+        Ok(classes) => written(alloc, classes.as_slice(), &symbols),
+        Err(Stop::Refused(refusal)) => refused(alloc, &refusal, &symbols),
         Err(Stop::Memory) => Err(Memory),
     }
 }

@@ -69,7 +69,7 @@ fn main(rt: HostRuntime) -> ExitCode {
     let status = run(&rt);
     if status == Status::WordsRefused {
         // What standard error answers changes no status.
-        let _ = eprintln!(rt; "usage: xmgeni COMMAND FILES OPTIONS");
+        let _ = eprintln!(rt; "usage: xmgeni compile METAGRAMMAR [--models N]");
     }
     exit_code(status)
 }

@@ -1,0 +1,4 @@
+pub mod Deciding
+pub mod Agreeing
+pub mod Placing
+pub mod Counting

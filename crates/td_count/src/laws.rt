@@ -1,0 +1,39 @@
+//! Laws of decisions and counts, as contracts of functions that do nothing.
+ghost use Rattle.std.specs.Prelude.{ℕ, List};
+ghost use Rattle.gr_base.specs.Lists.{IsListing, IsCount};
+ghost use Rattle.gr_base.specs.Forests.{Forest};
+ghost use Rattle.gr_terms.specs.Networks.{Term, name, Assertion, AreLinked, AreLinkedSlots, Agrees};
+ghost use Rattle.td_forest.specs.Nodes.{IsForestOf};
+ghost use Rattle.td_desc.specs.Descriptions.{Description};
+ghost use Rattle.td_colour.specs.Models.{IsForestModel, IsMinimalModel};
+ghost use Rattle.td_count.specs.Decisions.{IsDecided, AreToldApart};
+
+/// Where variables and slots can be told apart, it is decided which slots and which terms a network
+/// links, which terms have a name, and whether the network agrees.
+pub fn agreement_is_decided<V, S>()
+    ensures slots { AreToldApart S → (N : List (Assertion V S)) (s t : S)
+        → IsDecided (AreLinkedSlots N s t) }
+    ensures terms { AreToldApart V → AreToldApart S → (N : List (Assertion V S)) (x y : Term V)
+        → IsDecided (AreLinked N x y) }
+    ensures names { AreToldApart V → AreToldApart S → (N : List (Assertion V S)) (x : Term V)
+        → IsDecided ((a : ℕ) × AreLinked N x (name a)) }
+    ensures agrees { AreToldApart V → AreToldApart S → (N : List (Assertion V S))
+        → IsDecided (Agrees N) }
+{}
+
+/// The forests of the first m nodes are finitely many.
+pub fn forests_are_finite()
+    ensures { (m : ℕ) → (Fs : List (Forest (List ℕ))) × IsListing (IsForestOf m) Fs }
+{}
+
+/// A description has finitely many forest models of its first m nodes, so a number of them, and
+/// finitely many minimal models, where its variables and slots can be told apart. Nothing is asked
+/// of the order of its nodes.
+pub fn models_are_finite<V, S>()
+    ensures models { AreToldApart V → AreToldApart S → (d : Description V S) (m : ℕ)
+        → (Fs : List (Forest (List ℕ))) × IsListing (IsForestModel d m) Fs }
+    ensures count { AreToldApart V → AreToldApart S → (d : Description V S) (m : ℕ)
+        → (n : ℕ) × IsCount (IsForestModel d m) n }
+    ensures minimal { AreToldApart V → AreToldApart S → (d : Description V S)
+        → (Fs : List (Forest (List ℕ))) × IsListing (IsMinimalModel d) Fs }
+{}

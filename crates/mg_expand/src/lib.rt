@@ -39,6 +39,8 @@ mod expander;
 mod exports;
 pub mod laws;
 mod step;
+#[cfg(test)]
+mod tests;
 mod walker;
 
 pub use expander::Expander;

@@ -7,3 +7,5 @@ mod Spelled
 mod Finish
 mod Unspelled
 mod OneRight
+pub mod SomeAnswer
+mod Tables

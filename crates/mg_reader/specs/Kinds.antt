@@ -1,5 +1,6 @@
 -- What the grammar sees of a token: its kind, its name's number and its place.
-use Rattle.std.specs.Prelude.{ℕ, suc, List, [], ◌∷◌, Bool, ◌||◌, ◌&&◌, nat_le, nat_lt, bytes_eq, codes, if◌then◌else◌}
+use Rattle.std.specs.Prelude.{ℕ, suc, List, [], ◌∷◌, Bool, ◌||◌, ◌&&◌, nat_le, nat_lt, bytes_eq, codes, if◌then◌else◌, length, not, ◌==◌}
+use Rattle.std.specs.List.{filter}
 use Rattle.gr_grammar.specs.declared.brackets.Turn.{Turn}
 use Rattle.gr_grammar.specs.declared.brackets.Turn.TheVariants.{Opens, Closes, Neither}
 use Rattle.mg_reader.specs.declared.lexeme.Kind.{Kind}
@@ -94,6 +95,14 @@ signs =
     ∷ (codes "|", kind.Bar) ∷ (codes "!", kind.Bang) ∷ (codes "(", kind.LeftParen) ∷ (codes ")", kind.RightParen)
     ∷ (codes "[", kind.LeftBracket) ∷ (codes "]", kind.RightBracket) ∷ (codes "{", kind.LeftBrace) ∷ (codes "}", kind.RightBrace)
     ∷ []
+
+-- the rows of a table with a text of so many bytes
+abbrev pub of_width : ℕ → List (List ℕ × Kind) → List (List ℕ × Kind)
+of_width n rows = filter (λ r. length r.0 == n) rows
+
+-- the other rows
+abbrev pub not_of_width : ℕ → List (List ℕ × Kind) → List (List ℕ × Kind)
+not_of_width n rows = filter (λ r. not (length r.0 == n)) rows
 
 abbrev pub word_kind : List ℕ → Kind
 word_kind text = kind_in words text

@@ -42,3 +42,10 @@ pub fn one_table()
     ensures one { (bytes : List ℕ) (old a b : List (List ℕ)) → IsTable bytes old a → IsTable bytes old b → a ≡ b }
     ensures apart { (bytes : List ℕ) (old new : List (List ℕ)) → NoneTwice old → IsTable bytes old new → NoneTwice new }
 {}
+
+/// For a text and the table behind it an answer is right: a metagrammar, or a refusal that isn't want
+/// of memory.
+pub fn some_answer()
+    ensures { (bytes : List ℕ) (old new : List (List ℕ)) → IsTable bytes old new
+        → (answer : Result (List Entry) Refused) × IsRight bytes new answer }
+{}

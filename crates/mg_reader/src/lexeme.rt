@@ -1,7 +1,7 @@
 //! What the grammar sees of a token.
-ghost use Rattle.std.specs.Prelude.{◌≡◌};
+ghost use Rattle.std.specs.Prelude.{◌≡◌, [], ◌∷◌};
 ghost use Rattle.gr_grammar.specs.declared.brackets.Turn.{Turn as Turned};
-ghost use Rattle.mg_reader.specs.Kinds.{high, kind_number, low, sign_kind, test, turn_of, word_kind};
+ghost use Rattle.mg_reader.specs.Kinds.{high, kind_in, kind_number, low, not_of_width, of_width, sign_kind, signs, test, turn_of, word_kind, words};
 
 use gr_grammar::brackets::Turn;
 use gr_terms::Sym;
@@ -241,36 +241,96 @@ impl Kind {
     pub fn of_word(text: &str) -> Kind
         ensures { result ≡ word_kind text.now }
     {
+        match text.len() {
+            3 => Kind::of_three_letters(text),
+            4 => Kind::of_four_letters(text),
+            5 => Kind::of_five_letters(text),
+            6 => Kind::of_six_letters(text),
+            7 => Kind::of_seven_letters(text),
+            8 => Kind::of_eight_letters(text),
+            _ => Kind::Word,
+        }
+    }
+
+    /// The kind of a word of three letters.
+    fn of_three_letters(text: &str) -> Kind
+        ensures { result ≡ kind_in (of_width 3 words) text.now }
+    {
         match text {
-            "class" => Kind::Class,
-            "import" => Kind::Import,
-            "export" => Kind::Export,
-            "declare" => Kind::Declare,
-            "value" => Kind::Value,
-            "node" => Kind::Node,
-            "type" => Kind::Domain,
-            "property" => Kind::Property,
-            "feature" => Kind::Feature,
             "use" => Kind::Use,
-            "anchor" => Kind::Anchor,
-            "coanchor" => Kind::Coanchor,
-            "subst" => Kind::Subst,
-            "foot" => Kind::Foot,
             "lex" => Kind::Lex,
-            "nadj" => Kind::Nadj,
-            "with" => Kind::With,
-            "dims" => Kind::Dims,
             "syn" => Kind::Syn,
             "sem" => Kind::Sem,
-            "iface" => Kind::Iface,
-            "black" => Kind::Black,
-            "white" => Kind::White,
             "red" => Kind::Red,
             "top" => Kind::Top,
             "bot" => Kind::Bot,
-            "color" => Kind::Color,
-            "mark" => Kind::Mark,
             "cat" => Kind::Cat,
+            _ => Kind::Word,
+        }
+    }
+
+    /// The kind of a word of four letters.
+    fn of_four_letters(text: &str) -> Kind
+        ensures { result ≡ kind_in (of_width 4 words) text.now }
+    {
+        match text {
+            "node" => Kind::Node,
+            "type" => Kind::Domain,
+            "foot" => Kind::Foot,
+            "nadj" => Kind::Nadj,
+            "with" => Kind::With,
+            "dims" => Kind::Dims,
+            "mark" => Kind::Mark,
+            _ => Kind::Word,
+        }
+    }
+
+    /// The kind of a word of five letters.
+    fn of_five_letters(text: &str) -> Kind
+        ensures { result ≡ kind_in (of_width 5 words) text.now }
+    {
+        match text {
+            "class" => Kind::Class,
+            "value" => Kind::Value,
+            "subst" => Kind::Subst,
+            "iface" => Kind::Iface,
+            "black" => Kind::Black,
+            "white" => Kind::White,
+            "color" => Kind::Color,
+            _ => Kind::Word,
+        }
+    }
+
+    /// The kind of a word of six letters.
+    fn of_six_letters(text: &str) -> Kind
+        ensures { result ≡ kind_in (of_width 6 words) text.now }
+    {
+        match text {
+            "import" => Kind::Import,
+            "export" => Kind::Export,
+            "anchor" => Kind::Anchor,
+            _ => Kind::Word,
+        }
+    }
+
+    /// The kind of a word of seven letters.
+    fn of_seven_letters(text: &str) -> Kind
+        ensures { result ≡ kind_in (of_width 7 words) text.now }
+    {
+        match text {
+            "declare" => Kind::Declare,
+            "feature" => Kind::Feature,
+            _ => Kind::Word,
+        }
+    }
+
+    /// The kind of a word of eight letters.
+    fn of_eight_letters(text: &str) -> Kind
+        ensures { result ≡ kind_in (of_width 8 words) text.now }
+    {
+        match text {
+            "property" => Kind::Property,
+            "coanchor" => Kind::Coanchor,
             _ => Kind::Word,
         }
     }
@@ -279,6 +339,41 @@ impl Kind {
     pub fn of_sign(text: &str) -> Kind
         ensures { result ≡ sign_kind text.now }
     {
+        if text.len() == 1 {
+            Kind::of_lone_sign(text.as_bytes()[0])
+        } else {
+            Kind::of_long_sign(text)
+        }
+    }
+
+    /// The kind of a sign of one byte.
+    fn of_lone_sign(byte: u8) -> Kind
+        ensures { result ≡ kind_in (of_width 1 signs) (byte ∷ []) }
+    {
+        match byte {
+            b'=' => Kind::Equals,
+            b'>' => Kind::Greater,
+            b'<' => Kind::Less,
+            b'.' => Kind::Dot,
+            b',' => Kind::Comma,
+            b';' => Kind::Semicolon,
+            b':' => Kind::Colon,
+            b'|' => Kind::Bar,
+            b'!' => Kind::Bang,
+            b'(' => Kind::LeftParen,
+            b')' => Kind::RightParen,
+            b'[' => Kind::LeftBracket,
+            b']' => Kind::RightBracket,
+            b'{' => Kind::LeftBrace,
+            b'}' => Kind::RightBrace,
+            _ => Kind::Word,
+        }
+    }
+
+    /// The kind of a sign of more bytes than one.
+    fn of_long_sign(text: &str) -> Kind
+        ensures { result ≡ kind_in (not_of_width 1 signs) text.now }
+    {
         match text {
             "->" => Kind::Below,
             "->+" => Kind::BelowPlus,
@@ -286,24 +381,9 @@ impl Kind {
             ">>" => Kind::Next,
             ">>+" => Kind::NextPlus,
             ">>*" => Kind::NextStar,
-            "=" => Kind::Equals,
-            ">" => Kind::Greater,
-            "<" => Kind::Less,
             "..." => Kind::Dots,
             "...+" => Kind::DotsPlus,
-            "." => Kind::Dot,
             ",,," => Kind::Commas,
-            "," => Kind::Comma,
-            ";" => Kind::Semicolon,
-            ":" => Kind::Colon,
-            "|" => Kind::Bar,
-            "!" => Kind::Bang,
-            "(" => Kind::LeftParen,
-            ")" => Kind::RightParen,
-            "[" => Kind::LeftBracket,
-            "]" => Kind::RightBracket,
-            "{" => Kind::LeftBrace,
-            "}" => Kind::RightBrace,
             _ => Kind::Word,
         }
     }

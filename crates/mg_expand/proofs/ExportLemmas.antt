@@ -1,6 +1,6 @@
 -- Each name of a list once, by first place.
-use Rattle.std.specs.Prelude.{◌≡◌, List, [], ◌∷◌, ◌++◌, Bool, true, false, ◌==◌, if◌then◌else◌, not, ◌⊎◌, refl}
-use Rattle.std.specs.List.{filter}
+use Rattle.std.specs.Prelude.{◌≡◌, List, [], ◌∷◌, ◌++◌, Bool, true, false, ◌==◌, if◌then◌else◌, not, ◌⊎◌, refl, map, ◌||◌}
+use Rattle.std.specs.List.{filter, list_any}
 use Rattle.std.proofs.Common.{inl, inr, ap, sym, ◌∙◌, subst, ℕ, ◌+◌, ◌<◌, length, take, get_or}
 use Rattle.std.proofs.lemmas.List.{take_more}
 use Rattle.gr_base.proofs.ListLemmas.{IsAmong-one_more}
@@ -108,3 +108,47 @@ firsts_more names more seen x new push e =
 pub not_among_more : (xs : List Sym) (i : ℕ) (d x : Sym) → i < length xs → (IsAmong (take i xs) x → ⊥) → ((get_or xs i d).0 ≡ x.0 → ⊥) → IsAmong (take (i + 1) xs) x → ⊥
 not_among_more xs i d x within none other among =
     elim (IsAmong-one_more (take i xs) (get_or xs i d) x (subst (λ z. IsAmong z x) (take_more xs i d within) among)) [ inl p ↦ none p | inr e ↦ other (ap (λ (s : Sym). s.0) (sym e)) ]
+
+-- the numbers of the names
+abbrev number : Sym → ℕ
+number s = s.0
+
+abbrev has_number : List ℕ → ℕ → Bool
+has_number keys n = list_any (λ b. n == b) keys
+
+or_true : (b : Bool) → (b || true) ≡ true
+or_true true = refl
+or_true false = refl
+
+has_number-among : (names : List Sym) (x : Sym) → IsAmong names x → has_number (map number names) x.0 ≡ true
+has_number-among [] x i = absurd i
+has_number-among (y ∷ ys) x (inl e) = ap (λ b. b || has_number (map number ys) x.0) (same_number x.0 y.0 (ap number e))
+has_number-among (y ∷ ys) x (inr j) = ap (λ b. (x.0 == y.0) || b) (has_number-among ys x j) ∙ or_true (x.0 == y.0)
+
+IsAmong-numbered : (names : List Sym) (x : Sym) → has_number (map number names) x.0 ≡ true → IsAmong names x
+IsAmong-numbered [] x e = absurd (never e)
+  where
+    never : false ≡ true → ⊥
+    never r = cc
+IsAmong-numbered (y ∷ ys) x e = by (compared x y) (IsAmong-numbered ys x)
+  where
+    by : Compared x y → (has_number (map number ys) x.0 ≡ true → IsAmong ys x) → IsAmong (y ∷ ys) x
+    by (same_name q) more = inl q
+    by (other_name o) more = inr (more (sym (ap (λ b. b || has_number (map number ys) x.0) (other_number x.0 y.0 (λ q. o (same_sym x y q)))) ∙ e))
+
+not_not : (b : Bool) → not (not b) ≡ b
+not_not true = refl
+not_not false = refl
+
+-- a number among those met is that of a name, and another one isn't
+met_of : (names : List Sym) (x : Sym) {keys : List ℕ} {new : Bool} → keys ≡ map number names → new ≡ not (has_number keys x.0) → has_number (map number names) x.0 ≡ not new
+met_of names x {keys} k e = sym (ap (λ z. has_number z x.0) k) ∙ (sym (not_not (has_number keys x.0)) ∙ ap not (sym e))
+
+pub is_met : (names : List Sym) (x : Sym) {keys : List ℕ} {new : Bool} → keys ≡ map number names → new ≡ not (has_number keys x.0) → new ≡ false → IsAmong names x
+is_met names x k e f = IsAmong-numbered names x (met_of names x k e ∙ ap not f)
+
+pub is_unmet : (names : List Sym) (x : Sym) {keys : List ℕ} {new : Bool} → keys ≡ map number names → new ≡ not (has_number keys x.0) → new ≡ true → IsAmong names x → ⊥
+is_unmet names x k e t i = never (sym (has_number-among names x i) ∙ (met_of names x k e ∙ ap not t))
+  where
+    never : true ≡ false → ⊥
+    never r = cc

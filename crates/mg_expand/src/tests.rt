@@ -1,8 +1,9 @@
 //! Expansions of classes of small metagrammars, told by the predicates of their literals.
+use crate::exports::gather;
 use crate::{Expander, Step};
 use gr_base::Memory;
 use gr_symbols::Symbols;
-use gr_terms::Term;
+use gr_terms::{Sym, Term};
 use gr_text::Budget;
 use mg_reader::read_metagrammar;
 use mg_scope::{Resolved, resolve};
@@ -210,5 +211,38 @@ fn the_limit_on_items(rt: HostRuntime) -> Result<(), Fail> {
     assert!(rt; within.as_str().ends_with("p p 8;b 8;END 9;"));
     let beyond = told(alloc, large(alloc, 4096)?.as_str(), &[9, 9, 9, 0])?;
     assert_eq!(rt; beyond.as_str(), "a 8;TOO LARGE 8;TOO LARGE 9;TOO LARGE 0;");
+    Ok(())
+}
+
+/// The names that are gathered from so many numbers, in steps of 5, of those below 26.
+fn gathered(alloc: Global, count: u32) -> Result<Vec<Sym>, Memory> {
+    let mut exports = Vec::new(alloc);
+    let mut number: u32 = 0;
+    for _ in 0..count {
+        exports.push(Sym(number))?;
+        number = number.wrapping_add(5) % 26;
+    }
+    let mut names = Vec::new(alloc);
+    names.push(Sym(99))?;
+    gather(&mut names, exports.as_slice())?;
+    Ok(names)
+}
+
+#[test]
+fn exports_are_gathered_once(rt: HostRuntime) -> Result<(), Fail> {
+    for (count, length) in [
+        (0, 0),
+        (3, 3),
+        (24, 24),
+        (25, 25),
+        (26, 26),
+        (27, 26),
+        (90, 26),
+    ] {
+        let names = gathered(rt.alloc(), count)?;
+        assert_eq!(rt; names.len(), length, "of {count}");
+        let third = if length > 2 { Some(&Sym(10)) } else { None };
+        assert_eq!(rt; names.as_slice().get(2), third, "of {count}");
+    }
     Ok(())
 }

@@ -2,10 +2,10 @@ use Rattle.std.proofs.Common.{sym, ap, ◌∙◌, take, List}
 use Rattle.std.proofs.lemmas.List.{take_all, take_more}
 use Rattle.gr_terms.specs.declared.Sym.{Sym}
 use Rattle.mg_scope.specs.Classes.{firsts}
-use Rattle.mg_expand.proofs.exports.gather.Goals as goal
+use Rattle.mg_expand.proofs.exports.note_all.Goals as goal
 
 pub loop-name-init : goal.loop-name-init
-loop-name-init c = c.truncate.ensures.items
+loop-name-init c = c.requires
 
 pub loop-name-preserved : goal.loop-name-preserved
 loop-name-preserved c =

@@ -1,27 +1,26 @@
 -- What the loop of the search has done after each step.
-use Rattle.std.specs.Prelude.{◌≡◌, ◌≢◌, ℕ, zero, suc, ◌+◌, ◌-◌, ◌<◌, ◌≤◌, List, [], ◌∷◌, ◌++◌, ◌⊎◌, ⊤, length, map, take, refl}
-use Rattle.std.proofs.Common.{inl, inr, subst, sym, ap, ap₂, get_or, ◌∙◌, arith, length-append}
+use Rattle.std.specs.Prelude.{◌≡◌, ℕ, zero, suc, ◌+◌, ◌<◌, ◌≤◌, List, [], ◌∷◌, ◌++◌, ◌⊎◌, length, map, take, refl}
+use Rattle.std.proofs.Common.{inl, inr, subst, sym, ap, ap₂, get_or, ◌∙◌, arith}
 use Rattle.std.proofs.lemmas.List.{length-map}
 use Rattle.gr_base.specs.Lists.{IsAmong, NoneTwice, Each, IsListing}
-use Rattle.gr_base.specs.Forests.{Forest, empty, tree}
+use Rattle.gr_base.specs.Forests.{Forest, empty}
 use Rattle.gr_base.proofs.ListLemmas.{Each-at, IsAmong-append, IsAmong-append_left, IsAmong-append_right, IsAmong-get_or}
 use Rattle.td_desc.specs.Descriptions.{Description}
 use Rattle.td_forest.specs.declared.Step.{Step}
 use Rattle.td_forest.specs.declared.Made.{Made}
-use Rattle.td_forest.specs.Nodes.{IsIn, IsForestOf}
+use Rattle.td_forest.specs.Nodes.{IsForestOf}
 use Rattle.td_forest.specs.Steps.{after_step, CanMake, forest_of}
 use Rattle.td_forest.specs.Names.{IsNamedStep}
 use Rattle.td_forest.specs.Without.{without}
 use Rattle.td_forest.proofs.Forming.{forest_is}
 use Rattle.td_forest.proofs.Places.{grown_push}
-use Rattle.td_forest.proofs.OneStep.{named_step, step_taken_back, steps_one, last_new, step_below}
+use Rattle.td_forest.proofs.OneStep.{named_step, step_taken_back, steps_one, last_new}
 use Rattle.td_colour.specs.Models.{IsForestModel}
-use Rattle.td_solver.specs.declared.Solved.{Solved}
 use Rattle.td_solver.specs.declared.Solved.TheVariants.{All, Cut}
 use Rattle.td_solver.specs.Choices.{Suffices}
-use Rattle.td_solver.specs.Searches.{IsFound, IsFoundBy, IsPartListing, Below}
-use Rattle.td_solver.specs.Turns.{IsFoundIn, IsSpent, Tried, IsProgress}
-use Rattle.td_solver.proofs.Finding.{found_none, found_skip, found_more, found_cut, found_all, part_all, found_end, deeper, each_as}
+use Rattle.td_solver.specs.Searches.{IsFoundBy}
+use Rattle.td_solver.specs.Turns.{IsSpent, Tried, IsProgress}
+use Rattle.td_solver.proofs.Finding.{found_none, found_skip, found_more, found_cut, found_all, part_all, found_end, each_as}
 
 -- a named step of the last node can be made
 pub can_make : (m : ℕ) (F : Forest (List ℕ)) (s : Step) → m < 24 → IsForestOf m F → IsNamedStep F s → CanMake F (record { node = m; step = s })

@@ -1,9 +1,11 @@
 -- The steps that the colour of a node leaves to it, as the code finds them.
-use Rattle.std.specs.Prelude.{◌≡◌, ◌≢◌, ℕ, zero, suc, ◌<◌, List, [], ◌∷◌, map, ◌⊎◌, ◌↔◌, Bool, true, false, IsTrue, Result, Ok, Err, IfOk, Option, Some, None, length, slice_get, refl}
+use Rattle.std.specs.Prelude.{◌≡◌, ℕ, zero, suc, ◌<◌, List, [], ◌∷◌, map, ◌↔◌, Bool, true, IsTrue, Result, Ok, Err, IfOk, Option, Some, None, length, slice_get, refl}
 use Rattle.std.proofs.Common.{subst, sym, ap, ◌∙◌, arith}
 use Rattle.std.specs.Option.{option_map}
 use Rattle.std.proofs.lemmas.Option.{slice_get-map, same_Some}
+use Rattle.gr_base.specs.Lists.{IsAmong}
 use Rattle.gr_base.specs.Forests.{Forest}
+use Rattle.gr_base.proofs.ListLemmas.{Each-at}
 use Rattle.td_forest.specs.declared.Step.{Step}
 use Rattle.td_forest.specs.Nodes.{IsForestOf}
 use Rattle.td_forest.specs.Names.{IsNamedStep}
@@ -17,10 +19,10 @@ use Rattle.td_desc.specs.Conditions.{colour_rank}
 use Rattle.td_colour.specs.Colours.{IsOf, IsAllowed, BlacksFirst}
 use Rattle.td_colour.specs.Models.{IsForestModel}
 use Rattle.td_colour.proofs.Colouring.{one_colour, colour_of}
-use Rattle.td_solver.specs.Candidates.{IsCandidate, IsPushed, IsMergeBelow, IsUnderBelow}
+use Rattle.td_solver.specs.Candidates.{IsCandidate, IsEnough, IsMergeBelow, IsUnderBelow}
 use Rattle.td_solver.specs.Choices.{Suffices}
 use Rattle.td_solver.specs.Tasks.{RedsLast, IsCandidateOf}
-use Rattle.td_solver.proofs.Listed.{pushed_as, merges_all, under_all}
+use Rattle.td_solver.proofs.Listed.{enough_as, merges_all, under_all}
 use Rattle.td_solver.proofs.Suiting.{by_candidate, suits_allowed}
 
 pub ok_map : {A E : Type 0} (P Q : A → Type 0) (r : Result A E) → ((a : A) → P a → Q a) → IfOk r P → IfOk r Q
@@ -44,20 +46,23 @@ module _ (dd : code.Description) (m : ℕ) (F : Forest (List ℕ)) where
   of_node c s is h k other = subst (λ j. IsCandidate F j s) (one_colour (description_of dd).nodes m c k is other) h
 
   module _ (f : IsForestOf m F) (n : code_node.DescribedNode) (at : slice_get dd.nodes m ≡ Some n) where
-    pub white_candidates : n.colour ≡ White → (old new : List Step) → IsPushed (IsMergeBelow F m) old new → IsPushed (IsCandidateOf dd m F) old new
+    abbrev Chosen : (Step → Type 0) → List Step → List Step → Type 0
+    Chosen P old new = IsEnough (description_of dd) m F P old new
+
+    pub white_candidates : n.colour ≡ White → (old new : List Step) → Chosen (IsMergeBelow F m) old new → Chosen (IsCandidateOf dd m F) old new
     white_candidates e old new p =
         let is = of_colour dd.nodes m n White at e in
-        pushed_as (IsCandidate F White) (IsCandidateOf dd m F) old new (merges_all F m f old new p) (λ s h. of_node White s is h) (λ s h. h White is)
+        enough_as (description_of dd) m F (IsCandidate F White) (IsCandidateOf dd m F) old new (merges_all (description_of dd) F m f old new p) (λ s h. of_node White s is h) (λ s h l. h White is)
 
-    pub black_candidates : n.colour ≡ Black → (old new : List Step) → IsPushed (IsUnderBelow F m) old new → IsPushed (IsCandidateOf dd m F) old new
+    pub black_candidates : n.colour ≡ Black → (old new : List Step) → Chosen (IsUnderBelow F m) old new → Chosen (IsCandidateOf dd m F) old new
     black_candidates e old new p =
         let is = of_colour dd.nodes m n Black at e in
-        pushed_as (IsCandidate F Black) (IsCandidateOf dd m F) old new (under_all F m f Black old new (λ q. cc) p) (λ s h. of_node Black s is h) (λ s h. h Black is)
+        enough_as (description_of dd) m F (IsCandidate F Black) (IsCandidateOf dd m F) old new (under_all (description_of dd) F m f Black old new (λ q. cc) p) (λ s h. of_node Black s is h) (λ s h l. h Black is)
 
-    pub red_candidates : n.colour ≡ Red → (old new : List Step) → IsPushed (IsUnderBelow F m) old new → IsPushed (IsCandidateOf dd m F) old new
+    pub red_candidates : n.colour ≡ Red → (old new : List Step) → Chosen (IsUnderBelow F m) old new → Chosen (IsCandidateOf dd m F) old new
     red_candidates e old new p =
         let is = of_colour dd.nodes m n Red at e in
-        pushed_as (IsCandidate F Red) (IsCandidateOf dd m F) old new (under_all F m f Red old new (λ q. cc) p) (λ s h. of_node Red s is h) (λ s h. h Red is)
+        enough_as (description_of dd) m F (IsCandidate F Red) (IsCandidateOf dd m F) old new (under_all (description_of dd) F m f Red old new (λ q. cc) p) (λ s h. of_node Red s is h) (λ s h l. h Red is)
 
 has_node : {A : Type 0} (xs : List A) (m : ℕ) → m < length xs → (x : A) × (slice_get xs m ≡ Some x)
 has_node [] m lt = absurd (omega arith)
@@ -78,14 +83,15 @@ module _ (dd : code.Description) (m : ℕ) (low : m < length dd.nodes) where
       → IsAllowed (description_of dd).nodes (after_step m s F) m
   candidate_allowed F s first last model h = let k = h node.0.colour coloured in suits_allowed (description_of dd) first last m F model node.0.colour s coloured k.0 k.1
 
-  -- they are all that is to be tried
-  pub suffices : (F : Forest (List ℕ)) → BlacksFirst (description_of dd).nodes → RedsLast (description_of dd).nodes → IsForestModel (description_of dd) m F
-      → Suffices (description_of dd) m F (IsCandidateOf dd m F)
-  suffices F first last model = record {
-    named = candidate_named F;
+  -- steps that are enough are all that is to be tried
+  pub suffices : (F : Forest (List ℕ)) (old new : List Step) → BlacksFirst (description_of dd).nodes → RedsLast (description_of dd).nodes → IsForestModel (description_of dd) m F
+      → (p : IsEnough (description_of dd) m F (IsCandidateOf dd m F) old new) → Suffices (description_of dd) m F (IsAmong p.more)
+  suffices F old new first last model p = record {
+    named = λ s i. candidate_named F s (Each-at (IsCandidateOf dd m F) p.more s p.only i);
     all = λ H h parent.
         let r = by_candidate (description_of dd) first last m F model node.0.colour coloured H h parent in
-        (r.0, of_node dd m F node.0.colour r.0 coloured r.1, r.2);
+        let here : IsCandidateOf dd m F r.0 = of_node dd m F node.0.colour r.0 coloured r.1 in
+        (r.0, p.all r.0 here (subst (λ G. IsForestModel (description_of dd) (suc m) G) r.2 h), r.2);
   }
 
 -- reds stand behind whites

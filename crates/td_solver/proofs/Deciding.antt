@@ -1,14 +1,14 @@
 -- Which relations hold after the step of the newest node.
-use Rattle.std.specs.Prelude.{◌≡◌, ◌≢◌, ℕ, zero, suc, ◌+◌, ◌<◌, ◌≤◌, List, [], ◌∷◌, ◌⊎◌, ◌↔◌, Bool, true, false, not, length, refl}
+use Rattle.std.specs.Prelude.{◌≡◌, ℕ, zero, suc, ◌+◌, ◌<◌, ◌≤◌, List, [], ◌∷◌, ◌⊎◌, ◌↔◌, Bool, true, false, not, length, refl}
 use Rattle.std.proofs.Common.{inl, inr, subst, sym, ap, ◌∙◌, arith, get_or}
 use Rattle.std.proofs.lemmas.Bool.{cases_eq}
-use Rattle.gr_base.specs.Lists.{IsAmong, Each}
+use Rattle.gr_base.specs.Lists.{Each}
 use Rattle.gr_base.specs.Forests.{Forest}
 use Rattle.td_forest.specs.declared.Relation.{Relation}
 use Rattle.td_forest.specs.declared.Relation.TheVariants as rel
-use Rattle.td_forest.specs.Nodes.{IsIn, IsForestOf, Relates}
+use Rattle.td_forest.specs.Nodes.{IsForestOf, Relates}
 use Rattle.td_forest.specs.Without.{without}
-use Rattle.td_forest.proofs.Twins.{AreSameIn, IsOverIn, IsLeftIn, IsParentIn, IsNextIn}
+use Rattle.td_forest.proofs.Twins.{IsOverIn, IsLeftIn, IsParentIn, IsNextIn}
 use Rattle.td_forest.proofs.Positions.{by_position, by_recursion}
 use Rattle.td_forest.proofs.Forming.{of_below}
 use Rattle.td_forest.proofs.Keeping.{deletion_relations, over_in, left_in}
@@ -18,7 +18,7 @@ use Rattle.td_desc.specs.declared.Dominance.TheVariants.{Parent, Above, AboveOrS
 use Rattle.td_desc.specs.declared.Related.{Related}
 use Rattle.td_colour.specs.Relations.{Holds}
 use Rattle.td_colour.proofs.Twinning.{HoldsIn, holds_in, in_holds}
-use Rattle.td_solver.specs.Ties.{NoneSo, HoldsOf, IsBelow, is_tight_in, no_relation}
+use Rattle.td_solver.specs.Ties.{NoneSo, HoldsOf, IsBelow, is_tight_in}
 
 pub iff_true : (P : Type 0) → P → ◌≡◌ {A = Bool} true true ↔ P
 iff_true P p = ((λ e. p), (λ q. refl))

@@ -1,9 +1,7 @@
 -- One turn of the search: a step taken, what comes of it, and the step taken back.
-use Rattle.std.specs.Prelude.{◌≡◌, ℕ, zero, suc, ◌+◌, ◌-◌, ◌<◌, ◌≤◌, List, [], ◌∷◌, ◌++◌, Bool, true, false, length, take, refl}
-use Rattle.std.proofs.Common.{subst, sym, ap, ◌∙◌, arith, get_or}
-use Rattle.gr_base.specs.Lists.{IsListing}
-use Rattle.gr_base.specs.Forests.{Forest}
-use Rattle.gr_store.specs.Contents.{Contents, Grows, IsEarlier, mark_of, first_part}
+use Rattle.std.specs.Prelude.{◌≡◌, ℕ, zero, suc, ◌+◌, ◌<◌, List, [], ◌∷◌, ◌++◌, length, take, refl}
+use Rattle.std.proofs.Common.{subst, sym, ap, ◌∙◌, arith}
+use Rattle.gr_store.specs.Contents.{IsEarlier, mark_of, first_part}
 use Rattle.gr_store.specs.declared.room.Mark.{Mark}
 use Rattle.gr_store.proofs.Growth.{first_part-grown, IsEarlier-grown}
 use Rattle.td_desc.specs.declared.Description as code

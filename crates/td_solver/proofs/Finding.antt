@@ -1,11 +1,11 @@
 -- A search that grows candidates one node at a time lists each model once. It stands over any candidates with a parent.
-use Rattle.std.specs.Prelude.{◌≡◌, ◌≢◌, ℕ, zero, suc, ◌+◌, ◌<◌, ◌≤◌, List, [], ◌∷◌, ◌++◌, ◌⊎◌, ⊤, length, map, refl}
-use Rattle.std.proofs.Common.{inl, inr, subst, sym, ap, ap₂, ◌∙◌, arith, length-append}
+use Rattle.std.specs.Prelude.{◌≡◌, ℕ, zero, suc, ◌+◌, ◌<◌, ◌≤◌, List, [], ◌∷◌, ◌++◌, ◌⊎◌, map, refl}
+use Rattle.std.proofs.Common.{inl, inr, subst, sym, ap, ap₂, ◌∙◌, arith}
 use Rattle.td_solver.specs.Searches.{IsPartListing, Below, IsFound, IsFoundBy}
-use Rattle.gr_base.specs.Lists.{IsAmong, IsWithin, NoneTwice, Each, IsListing}
+use Rattle.gr_base.specs.Lists.{IsAmong, NoneTwice, Each, IsListing}
 use Rattle.gr_base.proofs.ListLemmas.{IsAmong-append, IsAmong-append_left, IsAmong-append_right, IsAmong-map, IsAmong-map_from, Each-at, Each-append}
 
-NoneTwice-append : {A : Type 0} (xs ys : List A) → NoneTwice xs → NoneTwice ys → ((x : A) → IsAmong xs x → IsAmong ys x → ⊥) → NoneTwice (xs ++ ys)
+pub NoneTwice-append : {A : Type 0} (xs ys : List A) → NoneTwice xs → NoneTwice ys → ((x : A) → IsAmong xs x → IsAmong ys x → ⊥) → NoneTwice (xs ++ ys)
 NoneTwice-append [] ys a b apart = b
 NoneTwice-append (x ∷ xs) ys a b apart =
     ((λ i. elim (IsAmong-append xs ys x i) [ inl j ↦ a.0 j | inr j ↦ apart x (inl refl) j ]), NoneTwice-append xs ys a.1 b (λ y i j. apart y (inr i) j))

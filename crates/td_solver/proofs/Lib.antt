@@ -2,6 +2,8 @@ pub mod Finding
 pub mod Deciding
 pub mod TieLemmas
 pub mod Suiting
+pub mod Told
+pub mod Narrowing
 pub mod Listed
 pub mod Choosing
 pub mod Advancing

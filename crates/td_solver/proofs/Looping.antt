@@ -7,7 +7,6 @@ use Rattle.td_canon.specs.TreeSets.{Entry}
 use Rattle.td_desc.specs.Descriptions.{Description}
 use Rattle.td_forest.specs.declared.Step.{Step}
 use Rattle.td_forest.specs.Nodes.{IsForestOf}
-use Rattle.td_forest.specs.Names.{IsNamedStep}
 use Rattle.td_forest.specs.Steps.{after_step, forest_of}
 use Rattle.td_colour.specs.Models.{IsForestModel}
 use Rattle.td_solver.specs.declared.Solved.{Solved}

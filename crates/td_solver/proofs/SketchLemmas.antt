@@ -7,7 +7,7 @@ use Rattle.gr_base.proofs.ListLemmas.{Each-append}
 use Rattle.td_desc.specs.declared.Colour.{Colour}
 use Rattle.td_desc.specs.declared.Colour.TheVariants.{Black, White, Red}
 use Rattle.td_desc.specs.declared.DescribedNode.{DescribedNode}
-use Rattle.td_desc.specs.Conditions.{AreOfColour, AreSlotsBelow, InSearchOrder}
+use Rattle.td_desc.specs.Conditions.{AreSlotsBelow, InSearchOrder}
 use Rattle.td_solver.specs.Sketches.{AddsNodes}
 
 pub adds_none : (c : Colour) (old : List DescribedNode) → length old ≤ 24 → AddsNodes c old old

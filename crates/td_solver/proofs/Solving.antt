@@ -1,8 +1,8 @@
 -- What the search from the empty forest gives.
-use Rattle.std.specs.Prelude.{◌≡◌, ℕ, ◌+◌, ◌*◌, ◌-◌, ◌<◌, ◌≤◌, List, [], ◌∷◌, ◌++◌, length, refl}
-use Rattle.std.proofs.Common.{subst, sym, ap, ◌∙◌, arith, append-nil}
-use Rattle.gr_base.specs.Lists.{IsAmong, IsWithin, NoneTwice}
-use Rattle.gr_base.specs.Forests.{Forest, empty}
+use Rattle.std.specs.Prelude.{◌≡◌, ℕ, ◌+◌, ◌*◌, ◌-◌, ◌<◌, List, length, refl}
+use Rattle.std.proofs.Common.{subst, sym, arith, append-nil}
+use Rattle.gr_base.specs.Lists.{IsAmong, NoneTwice}
+use Rattle.gr_base.specs.Forests.{empty}
 use Rattle.gr_terms.specs.Networks.{Agrees}
 use Rattle.gr_terms.specs.Networks as net
 use Rattle.gr_terms.specs.Views.{network_of}

@@ -1,14 +1,14 @@
 -- Which steps the colour of a node leaves to it.
-use Rattle.std.specs.Prelude.{◌≡◌, ◌≢◌, ℕ, suc, ◌-◌, ◌<◌, List, [], ◌∷◌, ◌++◌, map, Bool, true, ◌⊎◌, if◌then◌else◌, Option, Some, None, refl}
+use Rattle.std.specs.Prelude.{◌≡◌, ℕ, suc, ◌-◌, ◌<◌, List, [], ◌∷◌, ◌++◌, map, if◌then◌else◌, Option, Some, None, refl}
 use Rattle.std.proofs.Common.{inl, inr, subst, sym, ap, ap₂, ◌∙◌, arith}
 use Rattle.std.proofs.lemmas.Bool.{cases_eq}
-use Rattle.gr_base.specs.Lists.{IsAmong, Each, IsRising}
+use Rattle.gr_base.specs.Lists.{IsAmong, IsRising}
 use Rattle.gr_base.specs.Forests.{Forest, empty, tree, labels, map_forest}
 use Rattle.gr_base.proofs.ListLemmas.{IsAmong-append_left, IsAmong-append_right, IsAmong-map, Each-at}
 use Rattle.gr_base.proofs.ForestLemmas.{labels-beside}
 use Rattle.td_forest.specs.declared.Step.{Step}
 use Rattle.td_forest.specs.declared.Step.TheVariants.{Merge, Insert}
-use Rattle.td_forest.specs.Nodes.{IsIn, IsForestOf, IsNodeSet}
+use Rattle.td_forest.specs.Nodes.{IsIn, IsNodeSet}
 use Rattle.td_forest.specs.Steps.{put, has, first_trees, trees_behind, merged, inserted, change_under, after_step, IsStep}
 use Rattle.td_forest.specs.Names.{IsHead, IsNamedStep}
 use Rattle.td_forest.specs.Without.{without}

@@ -1,9 +1,9 @@
 -- One step of the search: what it keeps in the store, and when a forest model comes of it.
-use Rattle.std.specs.Prelude.{◌≡◌, ℕ, suc, ◌+◌, ◌*◌, ◌-◌, ◌<◌, ◌≤◌, List, [], ◌∷◌, ◌++◌, ◌⊎◌, ◌↔◌, Option, Some, length, map, slice_get, refl}
+use Rattle.std.specs.Prelude.{◌≡◌, ℕ, suc, ◌+◌, ◌*◌, ◌-◌, ◌<◌, ◌≤◌, List, [], ◌∷◌, ◌++◌, ◌↔◌, Option, Some, length, map, slice_get, refl}
 use Rattle.std.proofs.Common.{inl, inr, subst, sym, ap, ◌∙◌, arith, zero-add}
 use Rattle.std.specs.Option.{option_map}
 use Rattle.std.proofs.lemmas.Option.{slice_get-map}
-use Rattle.gr_base.specs.Lists.{IsAmong, IsWithin}
+use Rattle.gr_base.specs.Lists.{IsAmong}
 use Rattle.gr_base.specs.Forests.{Forest}
 use Rattle.gr_base.proofs.ListLemmas.{IsAmong-append, IsAmong-append_left, IsAmong-append_right, IsAmong-slice_get, Each-at}
 use Rattle.gr_terms.specs.Networks.{Agrees, link}
@@ -15,12 +15,11 @@ use Rattle.gr_store.specs.Contents.{Contents}
 use Rattle.td_desc.specs.declared.DescribedNode as code_node
 use Rattle.td_desc.specs.declared.Description as code
 use Rattle.td_desc.specs.Conditions.{IsNumbered, AreSlotsBelow}
-use Rattle.td_desc.specs.Descriptions.{Description, DescribedNode, node_of, description_of}
+use Rattle.td_desc.specs.Descriptions.{Description, node_of, description_of}
 use Rattle.td_forest.specs.declared.Step.{Step}
 use Rattle.td_forest.specs.declared.Step.TheVariants.{Merge, Insert}
-use Rattle.td_forest.specs.declared.Made.{Made}
 use Rattle.td_forest.specs.Nodes.{IsForestOf}
-use Rattle.td_forest.specs.Steps.{after_step, forest_of, IsStep}
+use Rattle.td_forest.specs.Steps.{after_step, IsStep}
 use Rattle.td_forest.specs.Names.{IsHead, IsNamedStep}
 use Rattle.td_forest.specs.Without.{without}
 use Rattle.td_forest.proofs.Naming.{head_in}

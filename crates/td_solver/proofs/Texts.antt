@@ -1,14 +1,14 @@
 -- The texts of the minimal models, each the only one of its model.
-use Rattle.std.specs.Prelude.{◌≡◌, ℕ, ◌+◌, ◌-◌, ◌<◌, ◌≤◌, List, [], ◌∷◌, ◌++◌, ◌⊎◌, ◌↔◌, Option, Some, None, length, map, slice_get, get_or, refl}
+use Rattle.std.specs.Prelude.{◌≡◌, ℕ, ◌<◌, List, [], ◌∷◌, Option, Some, None, length, map, slice_get}
 use Rattle.std.proofs.Common.{inl, inr, subst, sym, ap, ◌∙◌, arith}
 use Rattle.std.proofs.lemmas.List.{length-map}
 use Rattle.std.proofs.lemmas.Option.{slice_get-get_or}
-use Rattle.gr_base.specs.Lists.{IsAmong, IsWithin, NoneTwice, Each, gathered}
-use Rattle.gr_base.specs.Forests.{Forest, empty, labels, IsOneTree}
+use Rattle.gr_base.specs.Lists.{IsAmong, NoneTwice, gathered}
+use Rattle.gr_base.specs.Forests.{Forest, empty, labels}
 use Rattle.gr_base.proofs.ListLemmas.{IsAmong-append, IsAmong-map, IsAmong-map_from, Each-at, one_place}
 use Rattle.gr_terms.specs.Networks as net
 use Rattle.gr_terms.specs.Networks.{entry, link, HasValue}
-use Rattle.gr_terms.specs.Views.{network_of, assertion_of}
+use Rattle.gr_terms.specs.Views.{assertion_of}
 use Rattle.gr_terms.specs.declared.Assertion.{Assertion}
 use Rattle.gr_terms.specs.declared.Assertion.TheVariants.{Entry, Equate, Link}
 use Rattle.td_canon.specs.CanonicalTexts.{text_in, TellsAttributesApart}
@@ -19,7 +19,7 @@ use Rattle.td_desc.specs.declared.Description as code
 use Rattle.td_desc.specs.Descriptions.{Description, DescribedNode, node_of, description_of}
 use Rattle.td_forest.specs.Without.{without}
 use Rattle.td_colour.specs.Models.{node_links, set_links, merged_network, model_tree, IsForestModel, IsMinimalModel}
-use Rattle.td_model.specs.ModelTrees.{IsModelText, IsNamedAssertion, IsNamedDescription}
+use Rattle.td_model.specs.ModelTrees.{IsNamedAssertion, IsNamedDescription}
 use Rattle.td_solver.specs.Searches.{Below}
 use Rattle.td_solver.specs.Solutions.{GainsSome, GainsAll, IsSolutionText}
 use Rattle.td_solver.specs.Turns.{HasTextOf, HasAllBelow}

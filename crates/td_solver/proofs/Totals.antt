@@ -1,5 +1,5 @@
 -- What the search spends, against the numbers of models of the first nodes.
-use Rattle.std.specs.Prelude.{◌≡◌, ◌≢◌, ℕ, zero, suc, ◌+◌, ◌-◌, ◌<◌, ◌≤◌, List, [], ◌∷◌, ◌++◌, ◌⊎◌, ⊤, length, map, refl}
+use Rattle.std.specs.Prelude.{◌≡◌, ℕ, zero, suc, ◌+◌, ◌<◌, ◌≤◌, List, [], ◌∷◌, ◌++◌, ◌⊎◌, length, map, refl}
 use Rattle.std.proofs.Common.{inl, inr, subst, sym, ap, ◌∙◌, arith, length-append}
 use Rattle.std.proofs.lemmas.List.{length-map}
 use Rattle.gr_base.specs.Lists.{IsAmong, IsWithin, NoneTwice, Each, IsListing, gathered}
@@ -12,9 +12,8 @@ use Rattle.td_forest.specs.Without.{without}
 use Rattle.td_colour.specs.Colours.{BlacksFirst}
 use Rattle.td_colour.specs.Models.{set_links, merged_network, IsForestModel}
 use Rattle.td_colour.proofs.Modelling.{model_without, model_none}
-use Rattle.td_solver.specs.declared.Solved.{Solved}
 use Rattle.td_solver.specs.declared.Solved.TheVariants.{All, Cut}
-use Rattle.td_solver.specs.Searches.{IsFound, IsPartListing, Below}
+use Rattle.td_solver.specs.Searches.{IsPartListing, Below}
 use Rattle.td_solver.specs.Solutions.{IsModelTotal}
 use Rattle.td_solver.specs.Turns.{IsFoundIn, IsSpent}
 use Rattle.td_solver.proofs.Finding.{listing_both, all_below}

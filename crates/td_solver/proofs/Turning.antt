@@ -1,12 +1,11 @@
 -- The turns of the loop: the trees that were added, and the list of the steps so far.
-use Rattle.std.specs.Prelude.{◌≡◌, ℕ, zero, suc, ◌+◌, ◌-◌, ◌<◌, ◌≤◌, List, [], ◌∷◌, ◌++◌, ◌⊎◌, length, map, take, drop, refl}
+use Rattle.std.specs.Prelude.{◌≡◌, ℕ, suc, ◌+◌, ◌-◌, ◌<◌, ◌≤◌, List, [], ◌∷◌, ◌++◌, length, take, drop, refl}
 use Rattle.std.proofs.Common.{inl, inr, subst, sym, ap, get_or, ◌∙◌, arith, get_or-drop, length-drop}
 use Rattle.std.proofs.lemmas.Grind.{take_at_read}
 use Rattle.gr_base.specs.Lists.{IsAmong, IsWithin, IsListing}
 use Rattle.gr_base.specs.Forests.{Forest, IsOneTree}
 use Rattle.gr_base.proofs.ListLemmas.{IsAmong-map, IsAmong-map_from}
-use Rattle.td_canon.specs.CanonicalTexts.{text_in}
-use Rattle.td_canon.specs.TreeSets.{Entry, IsWhole, texts_of}
+use Rattle.td_canon.specs.TreeSets.{Entry, texts_of}
 use Rattle.td_desc.specs.Descriptions.{Description}
 use Rattle.td_forest.specs.declared.Step.{Step}
 use Rattle.td_forest.specs.Nodes.{IsForestOf}
@@ -15,9 +14,9 @@ use Rattle.td_forest.specs.Without.{without}
 use Rattle.td_colour.specs.Models.{IsForestModel}
 use Rattle.td_solver.specs.Choices.{Suffices}
 use Rattle.td_solver.specs.Candidates.{IsPushed}
-use Rattle.td_solver.specs.Searches.{Below, IsFoundBy}
-use Rattle.td_solver.specs.Solutions.{GainsSome, IsSolutionText}
-use Rattle.td_solver.specs.Turns.{Tried, HasTextOf, HasAllBelow, HasAllTried}
+use Rattle.td_solver.specs.Searches.{Below}
+use Rattle.td_solver.specs.Solutions.{GainsSome}
+use Rattle.td_solver.specs.Turns.{HasTextOf, HasAllBelow, HasAllTried}
 use Rattle.td_solver.proofs.Advancing.{StepFacts, step_facts, every_tried, tried_one}
 
 -- what a set gains, it gains step by step

@@ -9,12 +9,11 @@ use Rattle.td_desc.specs.declared.Colour.TheVariants.{White, Red}
 use Rattle.td_desc.specs.declared.Description.{Description}
 use Rattle.td_forest.specs.declared.Step.{Step}
 use Rattle.td_colour.specs.Colours.{IsOf, BlacksFirst}
-use Rattle.td_colour.specs.Models.{IsForestModel}
-use Rattle.td_solver.specs.Candidates.{IsCandidate, IsPushed, IsMergeBelow}
+use Rattle.td_solver.specs.Candidates.{IsCandidate}
 use Rattle.td_model.specs.CanonicalTrees.{AreAttributes}
 use Rattle.td_model.specs.ModelTrees.{IsNamedDescription}
 use Rattle.td_solver.specs.declared.task.Task.{Task}
-use Rattle.td_solver.specs.Ties.{is_of, is_tight_before, kept_for}
+use Rattle.td_solver.specs.Ties.{is_of, is_tight_before, kept_for, ArePlaced, AreKidsTold}
 
 -- reds stand behind whites
 abbrev pub RedsLast : {S : Type 0} → List (DescribedNode S) → Type 0
@@ -32,11 +31,9 @@ pub record IsTask (t : Task) : Type 0 where
   pub last : RedsLast (description_of t.d.now).nodes
   pub ties : t.ties ≡ kept_for is_of t.count t.d.now.relations
   pub tight : t.tight ≡ kept_for is_tight_before t.count t.d.now.relations
+  pub parents : ArePlaced t.d.now.relations t.count t.parents
+  pub kids : AreKidsTold t.d.now.relations t.count t.kids
 
 -- the step is one that the node's colour leaves to it
 abbrev pub IsCandidateOf : Description → ℕ → Forest (List ℕ) → Step → Type 0
 IsCandidateOf d m F s = (c : Colour) → IsOf (description_of d).nodes c m → IsCandidate F c s
-
--- the merges with each tree node were added, whatever model the forest is
-abbrev pub PushesMerges : Description → ℕ → List Step → List Step → Type 0
-PushesMerges d m old new = (F : Forest (List ℕ)) → IsForestModel (description_of d) m F → IsPushed (IsMergeBelow F m) old new

@@ -1,5 +1,5 @@
 -- What the search has done after each turn of its loop.
-use Rattle.std.specs.Prelude.{◌≡◌, ℕ, suc, ◌+◌, ◌*◌, ◌-◌, ◌<◌, ◌≤◌, List, [], ◌∷◌, ◌++◌, length}
+use Rattle.std.specs.Prelude.{◌≡◌, ℕ, ◌+◌, ◌*◌, ◌-◌, ◌<◌, ◌≤◌, List, [], ◌∷◌, ◌++◌, length}
 use Rattle.gr_base.specs.Lists.{IsAmong, IsListing}
 use Rattle.gr_base.specs.Forests.{Forest, IsOneTree}
 use Rattle.gr_store.specs.Contents.{Contents, Grows}

@@ -14,9 +14,10 @@
 //!   model is. `specs/Solutions` has the texts of all minimal models (`IsSolutionText`), what a set
 //!   gains, and the number of forest models of the first nodes (`IsModelTotal`), which is what a
 //!   budget is counted in.
-//! - The other files of `specs/` serve the search: `Candidates` has the steps that a colour leaves,
-//!   `Ties` the relations that a step is tested for, `Searches` what a search over any candidates with
-//!   a parent finds, and `Turns` what the loop has done after each step.
+//! - The other files of `specs/` serve the search: `Candidates` has the steps that a colour leaves and
+//!   says when a list of them is enough, `Ties` the relations that a step is tested for and the parents
+//!   that they tell, `Searches` what a search over any candidates with a parent finds, and `Turns` what
+//!   the loop has done after each step.
 //!
 //! # What the crates above can rely on
 //!
@@ -28,9 +29,15 @@
 //!
 //! # Inside
 //!
-//! `task` keeps the description and for each node the relations to test, made once. `candidates` lists
-//! the steps of a node on one stack for all turns, `holds` tests relations, and `search` has the loop,
-//! which takes a step back where it has gone through all that comes of it. No state is copied.
+//! `task` keeps the description, and for each node the relations to test and a parent that one of them
+//! tells, made once. `candidates` lists the steps of a node on one stack for all turns, `holds` tests
+//! relations, and `search` has the loop, which takes a step back where it has gone through all that
+//! comes of it. No state is copied.
+//!
+//! Steps that told parents exclude aren't listed. A node whose parent is told goes only under that, or
+//! is merged only with a node under that whose own told parent is no other. Where the parents of all
+//! nodes under a tree node are told, a new node there takes over none of them. What is listed beyond
+//! that is tried, and the relations decide.
 #![tactic(auto)]
 
 ghost use Rattle.std.specs.Prelude.{◌≡◌, ◌+◌, ◌<◌, ◌≤◌, ℕ, length, IfOk};

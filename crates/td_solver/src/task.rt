@@ -4,9 +4,9 @@ ghost use Rattle.gr_base.specs.Lists.{NoneTwice};
 ghost use Rattle.td_desc.specs.Conditions.{IsNumbered};
 ghost use Rattle.td_model.specs.ModelTrees.{IsNamedDescription};
 ghost use Rattle.td_solver.specs.Tasks.{IsTask};
-ghost use Rattle.td_solver.specs.Ties.{is_of, is_tight_before};
+ghost use Rattle.td_solver.specs.Ties.{is_of, is_tight_before, IsParentBefore, IsToldKid};
 
-use crate::ties::{all_ties, all_tight};
+use crate::ties::{all_kids, all_parents, all_ties, all_tight};
 use gr_base::{Items, Memory};
 use gr_symbols::Symbols;
 use gr_terms::Syms;
@@ -28,6 +28,8 @@ pub struct Task<'a> {
     pub attributes: Syms,
     ties: Items<Relations>,
     tight: Items<Relations>,
+    parents: Items<Option<u8>>,
+    kids: Items<Option<u8>>,
 }
 
 impl<'a> Task<'a> {
@@ -47,6 +49,8 @@ impl<'a> Task<'a> {
         let attributes = attributes(alloc, &d.network)?;
         let ties = all_ties(alloc, d.relations.as_slice(), count)?;
         let tight = all_tight(alloc, d.relations.as_slice(), count)?;
+        let parents = all_parents(alloc, d.relations.as_slice(), count)?;
+        let kids = all_kids(alloc, d.relations.as_slice(), count)?;
         Ok(Task {
             d,
             symbols,
@@ -54,6 +58,8 @@ impl<'a> Task<'a> {
             attributes,
             ties,
             tight,
+            parents,
+            kids,
         })
     }
 
@@ -73,6 +79,27 @@ impl<'a> Task<'a> {
         ensures { result.now ≡ filter (is_tight_before node) self.now.d.now.relations }
     {
         self.tight.get(node as usize).as_slice()
+    }
+
+    /// A node below `node` that a relation says to be the parent of another node.
+    pub fn parent_before(&self, kid: u8, node: u8) -> Option<u8>
+        requires task { IsTask self.now }
+        requires kid { kid < self.now.count }
+        ensures { IsParentBefore self.now.d.now.relations node kid result }
+    {
+        match *self.parents.get(kid as usize) {
+            Some(parent) => { if parent < node { Some(parent) } else { None } }
+            None => None,
+        }
+    }
+
+    /// A node below another one that a relation says to be its child.
+    pub fn kid_before(&self, node: u8) -> Option<u8>
+        requires task { IsTask self.now }
+        requires node { node < self.now.count }
+        ensures { IsToldKid self.now.d.now.relations node result }
+    {
+        *self.kids.get(node as usize)
     }
 
     /// A node of the description.

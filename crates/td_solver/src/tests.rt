@@ -117,6 +117,38 @@ fn whites_stand_for_blacks(rt: HostRuntime) -> Result<(), Fail> {
 }
 
 #[test]
+fn parents_that_are_told(rt: HostRuntime) -> Result<(), Fail> {
+    let alloc = rt.alloc();
+    let chain = found(alloc, "bbbb", "0->1 1->2 2->3", CATEGORIES)?;
+    assert_eq!(rt; chain.as_str(), "all 96: cat(mark(name(foot)));");
+    // The parent of node 2 isn't told, so node 3 may come over it, and not over node 1.
+    let loose = found(alloc, "bbbb", "0->1 0->+2 0->3", CATEGORIES)?;
+    let trees = "all 85: cat(foot mark name); cat(foot mark(name)); cat(foot name mark); \
+        cat(foot(name) mark); cat(mark foot name); cat(mark foot(name)); cat(mark name foot); \
+        cat(mark(name) foot); cat(name foot mark); cat(name mark foot);";
+    assert_eq!(rt; loose.as_str(), trees);
+    // The parent may come later, and then it takes the node over.
+    let later = found(alloc, "bbb", "2->0 2->1", CATEGORIES)?;
+    assert_eq!(rt; later.as_str(), "all 93: name(cat mark); name(mark cat);");
+    Ok(())
+}
+
+#[test]
+fn whites_with_parents_that_are_told(rt: HostRuntime) -> Result<(), Fail> {
+    let alloc = rt.alloc();
+    let deep = found(
+        alloc,
+        "bbbw",
+        "0->1 1->2 1->3",
+        "o0.cat=cat o1.cat=mark o2.cat=name",
+    )?;
+    assert_eq!(rt; deep.as_str(), "all 96: cat(mark(name));");
+    let loose = found(alloc, "bbw", "0->+1 0->2", "o0.cat=cat o1.cat=mark")?;
+    assert_eq!(rt; loose.as_str(), "all 97: cat(mark);");
+    Ok(())
+}
+
+#[test]
 fn what_trees_show(rt: HostRuntime) -> Result<(), Fail> {
     let sketch = Sketch {
         nodes: "bb",

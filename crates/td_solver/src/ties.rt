@@ -1,6 +1,6 @@
 //! For each node the relations that a search tests when it adds the node.
 ghost use Rattle.std.specs.Prelude.{◌≡◌, filter, IfOk};
-ghost use Rattle.td_solver.specs.Ties.{is_of, is_tight, is_tight_before, kept_for};
+ghost use Rattle.td_solver.specs.Ties.{is_of, is_tight, is_tight_before, kept_for, ArePlaced, AreKidsTold, IsToldKid, IsToldParent, SaysKid, SaysParent};
 
 use gr_base::{Items, Memory};
 use std::alloc::Global;
@@ -84,6 +84,100 @@ pub fn all_tight(
     for node in 0..count {
         let own = tight(alloc, relations, node)?;
         all.push(own)?;
+    }
+    Ok(all)
+}
+
+/// The node that the relation says to be the parent of the other.
+fn parent_in(related: Related, kid: u8) -> Option<u8>
+    ensures { SaysParent related kid result }
+{
+    match related.how {
+        Dominance::Parent => {
+            if related.to == u32::from(kid) && related.from < 24 {
+                Some(related.from as u8)
+            } else {
+                None
+            }
+        }
+        Dominance::Above => None,
+        Dominance::AboveOrSame => None,
+        Dominance::Next => None,
+        Dominance::Left => None,
+        Dominance::LeftOrSame => None,
+    }
+}
+
+/// The first node that a relation says to be the parent of a node.
+fn parent_of(relations: &[Related], kid: u8) -> Option<u8>
+    ensures { IsToldParent relations.now kid result }
+{
+    for related in relations {
+        if let Some(parent) = parent_in(*related, kid) {
+            return Some(parent);
+        }
+    }
+    None
+}
+
+/// For each of the nodes the first one that a relation says to be its parent.
+pub fn all_parents(
+    alloc: Global,
+    relations: &[Related],
+    count: u8,
+) -> Result<Items<Option<u8>>, Memory>
+    ensures { IfOk result (ArePlaced relations.now count) }
+{
+    let mut all = Items::new(alloc);
+    for kid in 0..count {
+        all.push(parent_of(relations, kid))?;
+    }
+    Ok(all)
+}
+
+/// The node below another one that the relation says to be its child.
+fn kid_in(related: Related, node: u8) -> Option<u8>
+    ensures { SaysKid related node result }
+{
+    match related.how {
+        Dominance::Parent => {
+            if related.from == u32::from(node) && related.to < u32::from(node) {
+                Some(related.to as u8)
+            } else {
+                None
+            }
+        }
+        Dominance::Above => None,
+        Dominance::AboveOrSame => None,
+        Dominance::Next => None,
+        Dominance::Left => None,
+        Dominance::LeftOrSame => None,
+    }
+}
+
+/// The first node below another one that a relation says to be its child.
+fn kid_of(relations: &[Related], node: u8) -> Option<u8>
+    ensures { IsToldKid relations.now node result }
+{
+    for related in relations {
+        if let Some(kid) = kid_in(*related, node) {
+            return Some(kid);
+        }
+    }
+    None
+}
+
+/// For each of the nodes the first one below it that a relation says to be its child.
+pub fn all_kids(
+    alloc: Global,
+    relations: &[Related],
+    count: u8,
+) -> Result<Items<Option<u8>>, Memory>
+    ensures { IfOk result (AreKidsTold relations.now count) }
+{
+    let mut all = Items::new(alloc);
+    for node in 0..count {
+        all.push(kid_of(relations, node))?;
     }
     Ok(all)
 }

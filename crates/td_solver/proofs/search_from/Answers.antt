@@ -1,4 +1,4 @@
-use Rattle.std.proofs.Common.{◌≡◌, ℕ, ◌+◌, ◌-◌, ◌<◌, List, length, subst, sym, ap}
+use Rattle.std.proofs.Common.{◌≡◌, ℕ, ◌+◌, ◌-◌, ◌<◌, List, length, subst, sym}
 use Rattle.gr_terms.specs.Networks.{Agrees}
 use Rattle.td_canon.specs.CanonicalTexts.{text_in}
 use Rattle.td_desc.specs.declared.Description.{Description}

@@ -1,4 +1,3 @@
-use Rattle.td_desc.specs.Descriptions.{description_of}
 use Rattle.td_solver.proofs.Solving.{none_all, none_spent}
 use Rattle.td_solver.proofs.solve.Goals as goal
 

@@ -1,6 +1,7 @@
+use Rattle.td_desc.specs.Descriptions.{description_of}
 use Rattle.td_forest.specs.Steps.{forest_of}
-use Rattle.td_solver.specs.Candidates.{IsPushed, IsUnderBelow}
+use Rattle.td_solver.specs.Candidates.{IsEnough, IsUnderBelow}
 use Rattle.td_solver.proofs.candidates.add_insertions.Given as goal
 
 abbrev pub invariant-loop-at : goal.invariant-loop-at
-invariant-loop-at l = IsPushed (IsUnderBelow (forest_of l.forest) l.at) l.fn.all.items l.all.items
+invariant-loop-at l = IsEnough (description_of l.task.d.now) l.fn.node (forest_of l.forest) (IsUnderBelow (forest_of l.forest) l.at) l.fn.all.items l.all.items

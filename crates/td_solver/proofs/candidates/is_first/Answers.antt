@@ -1,5 +1,4 @@
-use Rattle.std.proofs.Common.{rules, ◌≡◌}
-use Rattle.td_desc.specs.declared.Colour.TheVariants.{White}
+use Rattle.std.proofs.Common.{rules}
 use Rattle.td_solver.proofs.Choosing.{first_test}
 use Rattle.td_solver.proofs.candidates.is_first.Goals as goal
 

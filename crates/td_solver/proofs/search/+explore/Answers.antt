@@ -1,6 +1,7 @@
-use Rattle.std.proofs.Common.{rules, ◌≡◌, ℕ, ◌+◌, ◌-◌, ◌<◌, ◌≤◌, List, length, drop, get_or, subst, sym, ap, ◌∙◌, refl, arith, Bool, true, false}
-use Rattle.gr_base.specs.Lists.{IsListing}
+use Rattle.std.proofs.Common.{◌≡◌, ℕ, ◌+◌, ◌-◌, ◌<◌, ◌≤◌, List, length, drop, get_or, subst, ap, ◌∙◌, arith, Bool, true, false}
+use Rattle.gr_base.specs.Lists.{IsAmong, IsListing}
 use Rattle.gr_base.specs.Forests.{Forest}
+use Rattle.gr_base.proofs.ListLemmas.{Each-at}
 use Rattle.gr_text.specs.declared.budget.Budget.{Budget}
 use Rattle.td_canon.specs.CanonicalTexts.{text_in}
 use Rattle.td_desc.specs.Descriptions.{description_of}
@@ -8,10 +9,12 @@ use Rattle.td_forest.specs.declared.Step.{Step}
 use Rattle.td_forest.specs.Steps.{forest_of}
 use Rattle.td_solver.specs.declared.Solved.TheVariants.{Cut, All}
 use Rattle.td_solver.specs.declared.search.State.{State}
+use Rattle.td_solver.specs.Candidates.{IsEnough}
 use Rattle.td_solver.specs.Choices.{Suffices}
 use Rattle.td_solver.specs.Tasks.{IsCandidateOf}
 use Rattle.td_solver.specs.Turns.{IsRestored, HasAllBelow}
 use Rattle.td_solver.proofs.Choosing.{suffices}
+use Rattle.td_solver.proofs.Listed.{chosen_pushed}
 use Rattle.td_solver.proofs.Exploring.{restored_both, left_zero, candidate_here, bad_here, model_then, spent_then, forest_then, forest_back, store_back, steps_back, earlier_back}
 use Rattle.td_solver.proofs.Looping.{reached_all, step_is, reached_skip, reached_more, reached_cut, reached_none_left}
 use Rattle.td_solver.proofs.Turning.{below_end, pushed_behind, gains_both}
@@ -33,19 +36,21 @@ take-requires-clause-candidate t c =
     let n = c.args.task.now.count in
     let I : State = record { forest = c.args.state.now.forest; store = c.args.state.now.store; steps = c.add_candidates.new.all } in
     let F = forest_of c.args.state.now.forest in
-    let P : Step → Type 0 = IsCandidateOf dd m F in
+    let chosen : IsEnough d m F (IsCandidateOf dd m F) c.args.state.now.steps.items c.add_candidates.new.all.items = c.in_ok-add_candidates.ensures in
+    let P : Step → Type 0 = IsAmong chosen.more in
     let within = c.requires.within in
     let ne = c.if-node-task.false in
     let less : m < n = omega arith in
     let low : m < length dd.nodes = subst (λ (k : ℕ). m < k) c.requires.task.count less in
-    let suff : Suffices d m F P = suffices dd m low F c.requires.task.first c.requires.task.last c.requires.model in
+    let suff : Suffices d m F P = suffices dd m low F c.args.state.now.steps.items c.add_candidates.new.all.items c.requires.task.first c.requires.task.last c.requires.model chosen in
     let st : c.len-start.result ≡ length c.args.state.now.steps.items = c.len-start.ensures ∙ c.args.state.now.steps.ok.0 in
-    let l : IsListing P (drop c.len-start.result I.steps.items) = pushed_behind P c.args.state.now.steps.items c.add_candidates.new.all.items c.len-start.result st c.in_ok-add_candidates.ensures in
+    let l : IsListing P (drop c.len-start.result I.steps.items) = pushed_behind P c.args.state.now.steps.items c.add_candidates.new.all.items c.len-start.result st (chosen_pushed d m F (IsCandidateOf dd m F) c.args.state.now.steps.items c.add_candidates.new.all.items chosen) in
     let le : c.len-end.result ≡ length c.add_candidates.new.all.items = c.len-end.ensures ∙ c.add_candidates.new.all.ok.0 in
     let s : Step = c.index-step.result.now in
     let lt : c.loop-at.at < length I.steps.items = omega arith in
     let s_is : s ≡ get_or I.steps.items c.loop-at.at s = c.index-step.ensures ∙ ap (λ (xs : List Step). get_or xs c.loop-at.at s) c.loop-at.invariant.same.steps in
-    candidate_here dd m s I c.loop-at.state c.loop-at.invariant.same (step_is text d m n less I c.requires.model.nodes P suff c.len-start.result l c.loop-at.at c.loop-at.auto.at lt s s s_is)
+    let one : IsAmong chosen.more s = step_is text d m n less I c.requires.model.nodes P suff c.len-start.result l c.loop-at.at c.loop-at.auto.at lt s s s_is in
+    candidate_here dd m s I c.loop-at.state c.loop-at.invariant.same (Each-at (IsCandidateOf dd m F) chosen.more s chosen.only one)
 
 pub returns-then-not-spend-clause-spent : goal.returns-then-not-spend-clause-spent
 returns-then-not-spend-clause-spent t c =
@@ -56,14 +61,15 @@ returns-then-not-spend-clause-spent t c =
     let n = c.args.task.now.count in
     let I : State = record { forest = c.args.state.now.forest; store = c.args.state.now.store; steps = c.add_candidates.new.all } in
     let F = forest_of c.args.state.now.forest in
-    let P : Step → Type 0 = IsCandidateOf dd m F in
+    let chosen : IsEnough d m F (IsCandidateOf dd m F) c.args.state.now.steps.items c.add_candidates.new.all.items = c.in_ok-add_candidates.ensures in
+    let P : Step → Type 0 = IsAmong chosen.more in
     let within = c.requires.within in
     let ne = c.if-node-task.false in
     let less : m < n = omega arith in
     let low : m < length dd.nodes = subst (λ (k : ℕ). m < k) c.requires.task.count less in
-    let suff : Suffices d m F P = suffices dd m low F c.requires.task.first c.requires.task.last c.requires.model in
+    let suff : Suffices d m F P = suffices dd m low F c.args.state.now.steps.items c.add_candidates.new.all.items c.requires.task.first c.requires.task.last c.requires.model chosen in
     let st : c.len-start.result ≡ length c.args.state.now.steps.items = c.len-start.ensures ∙ c.args.state.now.steps.ok.0 in
-    let l : IsListing P (drop c.len-start.result I.steps.items) = pushed_behind P c.args.state.now.steps.items c.add_candidates.new.all.items c.len-start.result st c.in_ok-add_candidates.ensures in
+    let l : IsListing P (drop c.len-start.result I.steps.items) = pushed_behind P c.args.state.now.steps.items c.add_candidates.new.all.items c.len-start.result st (chosen_pushed d m F (IsCandidateOf dd m F) c.args.state.now.steps.items c.add_candidates.new.all.items chosen) in
     let le : c.len-end.result ≡ length c.add_candidates.new.all.items = c.len-end.ensures ∙ c.add_candidates.new.all.ok.0 in
     let s : Step = c.index-step.result.now in
     let lt : c.loop-at.at < length I.steps.items = omega arith in
@@ -82,14 +88,15 @@ returns-in-Cut-clause-spent t c =
     let n = c.args.task.now.count in
     let I : State = record { forest = c.args.state.now.forest; store = c.args.state.now.store; steps = c.add_candidates.new.all } in
     let F = forest_of c.args.state.now.forest in
-    let P : Step → Type 0 = IsCandidateOf dd m F in
+    let chosen : IsEnough d m F (IsCandidateOf dd m F) c.args.state.now.steps.items c.add_candidates.new.all.items = c.in_ok-add_candidates.ensures in
+    let P : Step → Type 0 = IsAmong chosen.more in
     let within = c.requires.within in
     let ne = c.if-node-task.false in
     let less : m < n = omega arith in
     let low : m < length dd.nodes = subst (λ (k : ℕ). m < k) c.requires.task.count less in
-    let suff : Suffices d m F P = suffices dd m low F c.requires.task.first c.requires.task.last c.requires.model in
+    let suff : Suffices d m F P = suffices dd m low F c.args.state.now.steps.items c.add_candidates.new.all.items c.requires.task.first c.requires.task.last c.requires.model chosen in
     let st : c.len-start.result ≡ length c.args.state.now.steps.items = c.len-start.ensures ∙ c.args.state.now.steps.ok.0 in
-    let l : IsListing P (drop c.len-start.result I.steps.items) = pushed_behind P c.args.state.now.steps.items c.add_candidates.new.all.items c.len-start.result st c.in_ok-add_candidates.ensures in
+    let l : IsListing P (drop c.len-start.result I.steps.items) = pushed_behind P c.args.state.now.steps.items c.add_candidates.new.all.items c.len-start.result st (chosen_pushed d m F (IsCandidateOf dd m F) c.args.state.now.steps.items c.add_candidates.new.all.items chosen) in
     let le : c.len-end.result ≡ length c.add_candidates.new.all.items = c.len-end.ensures ∙ c.add_candidates.new.all.ok.0 in
     let s : Step = c.index-step.result.now in
     let lt : c.loop-at.at < length I.steps.items = omega arith in
@@ -108,14 +115,15 @@ undo-requires t c =
     let n = c.args.task.now.count in
     let I : State = record { forest = c.args.state.now.forest; store = c.args.state.now.store; steps = c.add_candidates.new.all } in
     let F = forest_of c.args.state.now.forest in
-    let P : Step → Type 0 = IsCandidateOf dd m F in
+    let chosen : IsEnough d m F (IsCandidateOf dd m F) c.args.state.now.steps.items c.add_candidates.new.all.items = c.in_ok-add_candidates.ensures in
+    let P : Step → Type 0 = IsAmong chosen.more in
     let within = c.requires.within in
     let ne = c.if-node-task.false in
     let less : m < n = omega arith in
     let low : m < length dd.nodes = subst (λ (k : ℕ). m < k) c.requires.task.count less in
-    let suff : Suffices d m F P = suffices dd m low F c.requires.task.first c.requires.task.last c.requires.model in
+    let suff : Suffices d m F P = suffices dd m low F c.args.state.now.steps.items c.add_candidates.new.all.items c.requires.task.first c.requires.task.last c.requires.model chosen in
     let st : c.len-start.result ≡ length c.args.state.now.steps.items = c.len-start.ensures ∙ c.args.state.now.steps.ok.0 in
-    let l : IsListing P (drop c.len-start.result I.steps.items) = pushed_behind P c.args.state.now.steps.items c.add_candidates.new.all.items c.len-start.result st c.in_ok-add_candidates.ensures in
+    let l : IsListing P (drop c.len-start.result I.steps.items) = pushed_behind P c.args.state.now.steps.items c.add_candidates.new.all.items c.len-start.result st (chosen_pushed d m F (IsCandidateOf dd m F) c.args.state.now.steps.items c.add_candidates.new.all.items chosen) in
     let le : c.len-end.result ≡ length c.add_candidates.new.all.items = c.len-end.ensures ∙ c.add_candidates.new.all.ok.0 in
     let s : Step = c.index-step.result.now in
     let lt : c.loop-at.at < length I.steps.items = omega arith in
@@ -131,14 +139,15 @@ loop-at-preserved t c =
     let n = c.args.task.now.count in
     let I : State = record { forest = c.args.state.now.forest; store = c.args.state.now.store; steps = c.add_candidates.new.all } in
     let F = forest_of c.args.state.now.forest in
-    let P : Step → Type 0 = IsCandidateOf dd m F in
+    let chosen : IsEnough d m F (IsCandidateOf dd m F) c.args.state.now.steps.items c.add_candidates.new.all.items = c.in_ok-add_candidates.ensures in
+    let P : Step → Type 0 = IsAmong chosen.more in
     let within = c.requires.within in
     let ne = c.if-node-task.false in
     let less : m < n = omega arith in
     let low : m < length dd.nodes = subst (λ (k : ℕ). m < k) c.requires.task.count less in
-    let suff : Suffices d m F P = suffices dd m low F c.requires.task.first c.requires.task.last c.requires.model in
+    let suff : Suffices d m F P = suffices dd m low F c.args.state.now.steps.items c.add_candidates.new.all.items c.requires.task.first c.requires.task.last c.requires.model chosen in
     let st : c.len-start.result ≡ length c.args.state.now.steps.items = c.len-start.ensures ∙ c.args.state.now.steps.ok.0 in
-    let l : IsListing P (drop c.len-start.result I.steps.items) = pushed_behind P c.args.state.now.steps.items c.add_candidates.new.all.items c.len-start.result st c.in_ok-add_candidates.ensures in
+    let l : IsListing P (drop c.len-start.result I.steps.items) = pushed_behind P c.args.state.now.steps.items c.add_candidates.new.all.items c.len-start.result st (chosen_pushed d m F (IsCandidateOf dd m F) c.args.state.now.steps.items c.add_candidates.new.all.items chosen) in
     let le : c.len-end.result ≡ length c.add_candidates.new.all.items = c.len-end.ensures ∙ c.add_candidates.new.all.ok.0 in
     let s : Step = c.index-step.result.now in
     let lt : c.loop-at.at < length I.steps.items = omega arith in
@@ -184,14 +193,15 @@ returns-clause-spent t c =
     let n = c.args.task.now.count in
     let I : State = record { forest = c.args.state.now.forest; store = c.args.state.now.store; steps = c.add_candidates.new.all } in
     let F = forest_of c.args.state.now.forest in
-    let P : Step → Type 0 = IsCandidateOf dd m F in
+    let chosen : IsEnough d m F (IsCandidateOf dd m F) c.args.state.now.steps.items c.add_candidates.new.all.items = c.in_ok-add_candidates.ensures in
+    let P : Step → Type 0 = IsAmong chosen.more in
     let within = c.requires.within in
     let ne = c.if-node-task.false in
     let less : m < n = omega arith in
     let low : m < length dd.nodes = subst (λ (k : ℕ). m < k) c.requires.task.count less in
-    let suff : Suffices d m F P = suffices dd m low F c.requires.task.first c.requires.task.last c.requires.model in
+    let suff : Suffices d m F P = suffices dd m low F c.args.state.now.steps.items c.add_candidates.new.all.items c.requires.task.first c.requires.task.last c.requires.model chosen in
     let st : c.len-start.result ≡ length c.args.state.now.steps.items = c.len-start.ensures ∙ c.args.state.now.steps.ok.0 in
-    let l : IsListing P (drop c.len-start.result I.steps.items) = pushed_behind P c.args.state.now.steps.items c.add_candidates.new.all.items c.len-start.result st c.in_ok-add_candidates.ensures in
+    let l : IsListing P (drop c.len-start.result I.steps.items) = pushed_behind P c.args.state.now.steps.items c.add_candidates.new.all.items c.len-start.result st (chosen_pushed d m F (IsCandidateOf dd m F) c.args.state.now.steps.items c.add_candidates.new.all.items chosen) in
     let le : c.len-end.result ≡ length c.add_candidates.new.all.items = c.len-end.ensures ∙ c.add_candidates.new.all.ok.0 in
     let far : length I.steps.items ≤ c.loop-at.at = omega arith in
     (reached_all text d m n less I c.requires.model.nodes P suff c.len-start.result l c.loop-at.at c.args.budget.now.left c.loop-at.budget.left c.loop-at.out far c.loop-at.invariant.runs).0
@@ -205,14 +215,15 @@ returns-clause-all t c e =
     let n = c.args.task.now.count in
     let I : State = record { forest = c.args.state.now.forest; store = c.args.state.now.store; steps = c.add_candidates.new.all } in
     let F = forest_of c.args.state.now.forest in
-    let P : Step → Type 0 = IsCandidateOf dd m F in
+    let chosen : IsEnough d m F (IsCandidateOf dd m F) c.args.state.now.steps.items c.add_candidates.new.all.items = c.in_ok-add_candidates.ensures in
+    let P : Step → Type 0 = IsAmong chosen.more in
     let within = c.requires.within in
     let ne = c.if-node-task.false in
     let less : m < n = omega arith in
     let low : m < length dd.nodes = subst (λ (k : ℕ). m < k) c.requires.task.count less in
-    let suff : Suffices d m F P = suffices dd m low F c.requires.task.first c.requires.task.last c.requires.model in
+    let suff : Suffices d m F P = suffices dd m low F c.args.state.now.steps.items c.add_candidates.new.all.items c.requires.task.first c.requires.task.last c.requires.model chosen in
     let st : c.len-start.result ≡ length c.args.state.now.steps.items = c.len-start.ensures ∙ c.args.state.now.steps.ok.0 in
-    let l : IsListing P (drop c.len-start.result I.steps.items) = pushed_behind P c.args.state.now.steps.items c.add_candidates.new.all.items c.len-start.result st c.in_ok-add_candidates.ensures in
+    let l : IsListing P (drop c.len-start.result I.steps.items) = pushed_behind P c.args.state.now.steps.items c.add_candidates.new.all.items c.len-start.result st (chosen_pushed d m F (IsCandidateOf dd m F) c.args.state.now.steps.items c.add_candidates.new.all.items chosen) in
     let le : c.len-end.result ≡ length c.add_candidates.new.all.items = c.len-end.ensures ∙ c.add_candidates.new.all.ok.0 in
     let far : length I.steps.items ≤ c.loop-at.at = omega arith in
     (reached_all text d m n less I c.requires.model.nodes P suff c.len-start.result l c.loop-at.at c.args.budget.now.left c.loop-at.budget.left c.loop-at.out far c.loop-at.invariant.runs).1

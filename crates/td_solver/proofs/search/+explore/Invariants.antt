@@ -1,4 +1,4 @@
-use Rattle.std.proofs.Common.{◌≡◌, ◌-◌, ◌≤◌}
+use Rattle.std.proofs.Common.{◌-◌, ◌≤◌}
 use Rattle.td_canon.specs.CanonicalTexts.{text_in}
 use Rattle.td_desc.specs.Descriptions.{description_of}
 use Rattle.td_solver.specs.Solutions.{GainsSome}

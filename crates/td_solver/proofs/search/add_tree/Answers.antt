@@ -1,6 +1,5 @@
-use Rattle.std.proofs.Common.{◌≡◌, ℕ, List, length, sym}
+use Rattle.std.proofs.Common.{length}
 use Rattle.gr_base.specs.Forests.{IsOneTree}
-use Rattle.td_canon.specs.CanonicalTexts.{text_in}
 use Rattle.td_desc.specs.Descriptions.{description_of}
 use Rattle.td_forest.specs.Steps.{forest_of}
 use Rattle.td_colour.specs.Models.{IsMinimalModel}

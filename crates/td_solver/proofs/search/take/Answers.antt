@@ -1,6 +1,5 @@
 use Rattle.std.proofs.Common.{◌≡◌, ℕ, ◌+◌, ◌<◌, List, length, subst, sym, refl, arith, Bool, true, false}
 use Rattle.gr_base.specs.Forests.{Forest}
-use Rattle.gr_store.specs.Contents.{Contents}
 use Rattle.gr_store.proofs.Growth.{Grows-refl}
 use Rattle.td_desc.specs.Descriptions.{description_of}
 use Rattle.td_forest.specs.Names.{IsNamedStep}

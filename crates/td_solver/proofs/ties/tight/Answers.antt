@@ -1,4 +1,4 @@
-use Rattle.std.proofs.Common.{◌≡◌, ap, sym, ◌∙◌, refl}
+use Rattle.std.proofs.Common.{ap, sym, ◌∙◌}
 use Rattle.std.specs.Prelude.{filter}
 use Rattle.td_solver.specs.Ties.{is_tight_before}
 use Rattle.td_solver.proofs.TieLemmas.{filter_more, filter_skip, take_whole}

@@ -14,4 +14,6 @@ returns-clause-task c = record {
   last = reds_last c.args.d.now.nodes (λ x y n m a b less. c.colours_stand_in_order.ensures c.args.d.now.nodes x y n m c.requires.numbered.order a b less);
   ties = rw c.as_slice.ensures at c.in_ok-ties.ensures;
   tight = rw c.as_slice-2.ensures at c.in_ok-tight.ensures;
+  parents = rw c.as_slice-3.ensures at c.in_ok-parents.ensures;
+  kids = rw c.as_slice-4.ensures at c.in_ok-kids.ensures;
 }

@@ -164,16 +164,16 @@ module _ {V : Type 0} (S : Type 0) (apart : AreToldApart V) where
   equations_agree (p ∷ E) = one_more_agrees p E (equations_agree E)
 
 -- ---- the equations of a network
-abbrev when : {A : Type 0} (B : Type 0) → IsDecided B → A → List A
+abbrev pub when : {A : Type 0} (B : Type 0) → IsDecided B → A → List A
 when B (inl b) x = x ∷ []
 when B (inr n) x = []
 
-when_from : {A : Type 0} (B : Type 0) (d : IsDecided B) (x y : A) → IsAmong (when B d x) y → B × (y ≡ x)
+pub when_from : {A : Type 0} (B : Type 0) (d : IsDecided B) (x y : A) → IsAmong (when B d x) y → B × (y ≡ x)
 when_from B (inl b) x y (inl e) = (b, e)
 when_from B (inl b) x y (inr i) = absurd i
 when_from B (inr n) x y i = absurd i
 
-when_to : {A : Type 0} (B : Type 0) (d : IsDecided B) (x : A) → B → IsAmong (when B d x) x
+pub when_to : {A : Type 0} (B : Type 0) (d : IsDecided B) (x : A) → B → IsAmong (when B d x) x
 when_to B (inl b) x h = inl refl
 when_to B (inr n) x h = absurd (n h)
 

@@ -1,12 +1,14 @@
 //! Laws of decisions and counts, as contracts of functions that do nothing.
-ghost use Rattle.std.specs.Prelude.{ℕ, List};
-ghost use Rattle.gr_base.specs.Lists.{IsListing, IsCount};
+ghost use Rattle.std.specs.Prelude.{ℕ, List, ◌↔◌};
+ghost use Rattle.gr_base.specs.Lists.{IsAmong, IsListing, IsCount};
 ghost use Rattle.gr_base.specs.Forests.{Forest};
 ghost use Rattle.gr_terms.specs.Networks.{Term, name, Assertion, AreLinked, AreLinkedSlots, Agrees};
+ghost use Rattle.gr_terms.specs.Canonical.{Decorated};
+ghost use Rattle.td_canon.specs.CanonicalTexts.{IsCanonicalText, TellsAttributesApart};
 ghost use Rattle.td_forest.specs.Nodes.{IsForestOf};
 ghost use Rattle.td_desc.specs.Descriptions.{Description};
 ghost use Rattle.td_colour.specs.Models.{IsForestModel, IsMinimalModel};
-ghost use Rattle.td_count.specs.Decisions.{IsDecided, AreToldApart};
+ghost use Rattle.td_count.specs.Decisions.{IsDecided, AreToldApart, DifferByTexts, IsTextOfModel};
 
 /// Where variables and slots can be told apart, it is decided which slots and which terms a network
 /// links, which terms have a name, and whether the network agrees.
@@ -36,4 +38,18 @@ pub fn models_are_finite<V, S>()
         → (n : ℕ) × IsCount (IsForestModel d m) n }
     ensures minimal { AreToldApart V → AreToldApart S → (d : Description V S)
         → (Fs : List (Forest (List ℕ))) × IsListing (IsMinimalModel d) Fs }
+{}
+
+/// A tree whose network agrees has a canonical text, where variables and slots can be told apart and
+/// the attributes at its slots differ by their texts.
+pub fn trees_have_texts<V, S>()
+    ensures { AreToldApart V → AreToldApart S → (text : ℕ → List ℕ) (N : List (Assertion V S)) (t : Decorated S (Term V))
+        → Agrees N → TellsAttributesApart text N t → (bytes : List ℕ) × IsCanonicalText text N t bytes }
+{}
+
+/// The texts of the minimal models of a description are finitely many, where its attributes differ by
+/// their texts.
+pub fn texts_are_finite<V, S>()
+    ensures { AreToldApart V → AreToldApart S → (text : ℕ → List ℕ) (d : Description V S) → DifferByTexts text d
+        → (bs : List (List ℕ)) × ((b : List ℕ) → IsAmong bs b ↔ IsTextOfModel text d b) }
 {}

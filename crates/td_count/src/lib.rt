@@ -1,4 +1,4 @@
-//! That what is counted of descriptions exists.
+//! That what is counted and written of descriptions exists.
 //!
 //! # Model
 //!
@@ -13,7 +13,9 @@
 //! - it is decided which slots and terms a network links, which terms have a name, and whether the
 //!   network agrees;
 //! - the forests of the first m nodes are finitely many, and so are the forest models and the minimal
-//!   models of a description.
+//!   models of a description;
+//! - a tree whose network agrees has a canonical text, and the texts of the minimal models of a
+//!   description are finitely many, where attributes differ by their texts.
 //!
 //! So what is said of each number or list of these is never said of nothing.
 //!
@@ -23,7 +25,10 @@
 //! two values of one attribute at linked slots, and equations are joined one by one; whether they
 //! agree and which terms have names goes along (`proofs/Agreeing`). Each forest of one node more comes
 //! by a step from one without it, and steps are finitely many; which of the forests are models is
-//! decided by going over positions, sets and relations (`proofs/Placing`, `proofs/Counting`).
+//! decided by going over positions, sets and relations (`proofs/Placing`, `proofs/Counting`). For a
+//! canonical form the pairs of each slot are sorted by the texts of their attributes
+//! (`proofs/Sorting`), terms get labels by their classes in the order of a walk (`proofs/Labelling`),
+//! and both make the form (`proofs/Forming`, `proofs/Solving`).
 #![tactic(auto)]
 
 pub mod laws;

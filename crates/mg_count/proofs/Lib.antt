@@ -1,0 +1,4 @@
+pub mod Telling
+pub mod Identified
+pub mod Clashing
+pub mod Describing

@@ -7,3 +7,4 @@ pub mod Gone
 pub mod Searching
 pub mod Ending
 pub mod Uniqueness
+pub mod Existing

@@ -4,3 +4,4 @@ pub mod Laws
 pub mod OneOutcome
 pub mod Stopping
 pub mod Ending
+pub mod SomeOutcome

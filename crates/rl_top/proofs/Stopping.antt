@@ -76,7 +76,7 @@ read_refusal bytes texts (reading.Duplicate p) (inr h) = inr (refusal.DuplicateA
 read_refusal bytes texts (reading.TooManyClasses p) (inr h) = inr (refusal.TooManyClasses Metagrammar, refl)
 read_refusal bytes texts _ (inr h) = absurd h
 
-read_names : (texts : List (List ℕ)) (e : ReadRefusal) (r : Refusal) → IsOfReading e r → lines.HasTexts texts r
+pub read_names : (texts : List (List ℕ)) (e : ReadRefusal) (r : Refusal) → IsOfReading e r → lines.HasTexts texts r
 read_names texts (reading.Syntax p) r is = subst (λ z. lines.HasTexts texts z) (sym is) (tt, (tt, (tt, (tt, tt))))
 read_names texts (reading.NotUtf8 n) r is = subst (λ z. lines.HasTexts texts z) (sym is) (tt, (tt, (tt, tt)))
 read_names texts (reading.Duplicate p) r is = subst (λ z. lines.HasTexts texts z) (sym is) (tt, (tt, (tt, (tt, tt))))
@@ -117,7 +117,7 @@ class_stops m c models e stop.Memory fault of = tt
 class_stops m c models e (stop.Refused r) (inl none) of = absurd (subst (λ z. IsOfCompiling z r) none of)
 class_stops m c models e (stop.Refused r) (inr fault) of = (e, fault, of)
 
-names_text : (texts : List (List ℕ)) (n : ℕ) → n < length texts → Names texts n (text_in texts n)
+pub names_text : (texts : List (List ℕ)) (n : ℕ) → n < length texts → Names texts n (text_in texts n)
 names_text [] n h = absurd (omega arith)
 names_text (x ∷ xs) zero h = refl
 names_text (x ∷ xs) (suc n) h = names_text xs n (omega arith)
@@ -177,7 +177,7 @@ classes_named texts m models (v ∷ vs) (t ∷ ts) h =
     (subst (λ (z : Sym). z.0 < length texts) (sym h.0.class) (Names-within texts v.0 (text_in texts t.class.0) h.0.written.name), classes_named texts m models vs ts h.1)
 
 -- the class of a fault
-compiling_names : (texts : List (List ℕ)) (m : List Item) (c : Sym) (w : Walk) (e : CompileRefusal) (r : Refusal) → c.0 < length texts → IsFaultOf m c w e → IsOfCompiling e r → lines.HasTexts texts r
+pub compiling_names : (texts : List (List ℕ)) (m : List Item) (c : Sym) (w : Walk) (e : CompileRefusal) (r : Refusal) → c.0 < length texts → IsFaultOf m c w e → IsOfCompiling e r → lines.HasTexts texts r
 compiling_names texts m c w (compiling.TooManyNodes k) r within fault of = subst (λ z. lines.HasTexts texts z) (sym of) (tt, (subst (λ (z : Sym). z.0 < length texts) (sym fault.0) within, tt))
 compiling_names texts m c w (compiling.TooLarge k) r within fault of = subst (λ z. lines.HasTexts texts z) (sym of) (tt, (subst (λ (z : Sym). z.0 < length texts) (sym fault.0) within, tt))
 compiling_names texts m c w compiling.Memory r within fault of = absurd fault

@@ -19,7 +19,8 @@
 //!   are more than the budget; then it says so, and the status is `Shortened`.
 //! - Names are numbered by their first places in the file, so the bytes and the budget fix what is
 //!   right. [`one_outcome`] says how far: whether the file is refused, and the refusal; and all of
-//!   the text, where the budget reaches the steps of each class.
+//!   the text, where the budget reaches the steps of each class. [`some_outcome`] says that for each
+//!   file and budget there is a right outcome.
 //!
 //! # How
 //!
@@ -46,8 +47,8 @@ use crate::compiling::BYTE_LIMIT;
 use crate::outcome::outcome_of;
 use gr_io::{FetchFault, Shelf, Sink, write_all_of};
 use gr_text::Name;
-use mg_compile::laws::{one_compiled_list, one_fault, steps_are_enough};
-use mg_reader::laws::{one_answer, one_table};
+use mg_compile::laws::{each_class_has_an_answer, one_compiled_list, one_fault, steps_are_enough};
+use mg_reader::laws::{one_answer, one_table, some_answer};
 use rl_refusals::laws::one_line;
 use rl_words::compile_request;
 pub use status::Status;
@@ -111,6 +112,16 @@ pub fn run_one<H: Shelf, K: Sink>(
         Ok(()) => outcome.status,
         Err(_fault) => Status::WriteFault,
     }
+}
+
+/// For the bytes of each file and each budget an outcome is right.
+pub fn some_outcome()
+    ensures { (bytes : List ℕ) (models : ℕ) → (s : Ending) × (text : List ℕ) × IsOutcome bytes models s text }
+{
+    one_table();
+    some_answer();
+    mg_scope::laws::one_answer();
+    each_class_has_an_answer();
 }
 
 /// For the bytes of a file and a budget at most one refusal is right, and with it no other outcome.

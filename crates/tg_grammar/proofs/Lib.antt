@@ -1,0 +1,9 @@
+pub mod MarkLemmas
+pub mod SightLemmas
+pub mod FlawLemmas
+pub mod SurveyLemmas
+pub mod GrammarLemmas
+pub mod ShapeLemmas
+pub mod FactLemmas
+pub mod RefusalLemmas
+pub mod TestLemmas

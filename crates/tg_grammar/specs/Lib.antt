@@ -1,0 +1,6 @@
+pub mod Marks
+pub mod Shapes
+pub mod Facts
+pub mod Grammars
+pub mod Surveys
+pub mod Places

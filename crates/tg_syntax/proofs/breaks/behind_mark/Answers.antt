@@ -1,0 +1,25 @@
+use Rattle.std.proofs.Common.{rules, ◌≡◌, ◌<◌, ℕ, List, [], ◌∷◌, ◌++◌, length, take, drop, ◌-◌, true, false, refl, sym, ◌∙◌, ap, subst, arith}
+use Rattle.std.specs.Prelude.{codes, Some, None}
+use Rattle.std.proofs.lemmas.Bool.{true≢false}
+use Rattle.std.proofs.lemmas.Slice.Eq.{bytes_eq-Decides}
+use Rattle.gr_grammar.specs.Grammars.{tree_of, took, failed}
+use Rattle.gr_grammar.proofs.Fronts.{front_of}
+use Rattle.gr_text.specs.Places.{place_after}
+use Rattle.tg_syntax.specs.Breaks.{whole, before_dash, by_name, by_value, HasNoMark}
+use Rattle.tg_syntax.specs.Files.{system}
+use Rattle.tg_syntax.proofs.NameLemmas.{word_stop, one_name, no_whole, no_dash, no_front, obeys, one_value, short_case, long_case, dashed_names, nothing_behind, reserved_there, mark_there, no_room, split_again, mark_other}
+use Rattle.tg_syntax.proofs.Noting.{kept_note, new_note, line_more, line_last}
+use Rattle.tg_syntax.proofs.Stops.{stops_at_name, stops_by_name, stops_behind, stops_there, whole_file, steps_on}
+use Rattle.tg_syntax.proofs.breaks.behind_mark.Goals as goal
+
+pub returns-then-bytes-lt5 : goal.returns-then-bytes-lt5
+returns-then-bytes-lt5 c = no_room _ c.if-bytes-lt5.true
+
+pub begins_with-requires : goal.begins_with-requires
+begins_with-requires c = (_, split_again _ _ _ c.split_at.ensures.front c.split_at.ensures.back)
+
+pub returns-then-begins_with : goal.returns-then-begins_with
+returns-then-begins_with c = c.begins_with.ensures.0 c.if-begins_with.true
+
+pub returns-else-begins_with : goal.returns-else-begins_with
+returns-else-begins_with c = mark_other _ _ c.split_at.ensures.back (λ e. true≢false (sym (c.begins_with.ensures.1 e) ∙ c.if-begins_with.false))

@@ -1,0 +1,16 @@
+use Rattle.std.proofs.Common.{length, ◌∷◌, [], ◌*◌, ◌+◌, ◌-◌, ℕ}
+use Rattle.std.specs.Prelude.{Option}
+use Rattle.gr_grammar.specs.Grammars.{End, seq, tok, part}
+use Rattle.tg_syntax.specs.declared.class.Class.TheVariants.{Byte}
+use Rattle.tg_syntax.specs.Families.{node_part}
+use Rattle.tg_syntax.specs.Trees.{PROPERTY}
+use Rattle.tg_syntax.specs.Files.{class, LINES}
+use Rattle.tg_syntax.specs.Reading.{Read}
+use Rattle.tg_syntax.proofs.Noting.{ReadRow}
+use Rattle.tg_syntax.proofs.reader.Reader.classes.Given as goal
+
+abbrev pub invariant-row : goal.invariant-row
+invariant-row l = ReadRow (class) l.initial.self.scanner.rest.now l.self.scanner.rest.now l.initial.self.broken l.self.broken
+
+abbrev pub decreases-row : goal.decreases-row
+decreases-row l = length l.self.scanner.rest.now

@@ -1,0 +1,15 @@
+use Rattle.std.proofs.Common.{rules, ◌≡◌, ℕ, ◌∷◌, [], Err, Ok, refl, sym, ◌∙◌, ap, arith, length, ◌<◌, ◌≤◌}
+use Rattle.std.specs.Prelude.{codes, ◌++◌}
+use Rattle.gr_grammar.specs.Grammars.{took, failed}
+use Rattle.tg_syntax.proofs.Steps.{shorter, below}
+use Rattle.tg_syntax.proofs.Noting.{note_of, plain_read, then_read, first_read, left_read, right_read, property_reads, lines_read, node_read, row_start, row_more, row_ended, row_broken, row_below, no_braces, no_brace, some_braces, no_kids, no_kid, some_kids, token_read, keyword_read, bag_read, number_read, word_read, label_read, items_read, trees_read, cut_read}
+use Rattle.tg_syntax.proofs.reader.Reader.tree.Goals as goal
+
+pub returns-in_err-_nodes : goal.returns-in_err-_nodes
+returns-in_err-_nodes c = let e : c.from_residual.result ≡ Err c.in_err-_nodes.field-0.0 = search rules in rw e (first_read c.in_err-_nodes.ensures)
+
+pub returns-in_err-_behind : goal.returns-in_err-_behind
+returns-in_err-_behind c = let e : c.from_residual-in_err-_behind.result ≡ Err c.in_err-_behind.field-0.0 = search rules in rw e (then_read c.in_ok-_nodes.ensures (items_read c.in_err-_behind.ensures _))
+
+pub returns : goal.returns
+returns c = then_read c.in_ok-_nodes.ensures (items_read c.in_ok-_behind.ensures _)

@@ -1,0 +1,14 @@
+use Rattle.std.proofs.Common.{rules, ◌≡◌, ℕ, ◌∷◌, [], Err, Ok, refl, sym, ◌∙◌, ap, arith, length, ◌<◌, ◌≤◌}
+use Rattle.gr_grammar.specs.Grammars.{take_nothing, run_both, run_first, run_left, run_right, run_part, run_end, start, round, took, failed}
+use Rattle.gr_grammar.proofs.Loops.{ended, broken}
+use Rattle.tg_syntax.proofs.Steps.{in_word, in_string, word_full, word_on, word_one_left, word_ends, word_over_dash, word_stops, string_on, string_full, string_ends, digits_on, digits_full, digits_end, keyword_on, keyword_ends, shorter, below}
+use Rattle.tg_syntax.proofs.scanner.Scanner.next_literal.Goals as goal
+
+pub returns-in_err-_space : goal.returns-in_err-_space
+returns-in_err-_space c = let e : c.from_residual.result ≡ Err c.in_err-_space.field-0.0 = search rules in rw e (run_first c.in_err-_space.ensures)
+
+pub returns-in_err-_literal : goal.returns-in_err-_literal
+returns-in_err-_literal c = let e : c.from_residual-in_err-_literal.result ≡ Err c.in_err-_literal.field-0.0 = search rules in rw e (run_both c.in_ok-_space.ensures c.in_err-_literal.ensures)
+
+pub returns : goal.returns
+returns c = run_both c.in_ok-_space.ensures c.in_ok-_literal.ensures

@@ -1,0 +1,9 @@
+pub mod Bytes
+pub mod Families
+pub mod Names
+pub mod Trees
+pub mod Files
+pub mod Visits
+pub mod Breaks
+pub mod Answers
+pub mod Reading

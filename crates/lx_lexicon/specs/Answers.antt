@@ -1,0 +1,35 @@
+-- Which answers are right for a lexicon.
+use Rattle.std.specs.Prelude.{◌≡◌, ℕ, ◌-◌, List, length, ◌⊎◌, Option, Some, None, Result, Ok, Err}
+use Rattle.gr_tokens.specs.Answers.{AreTokens, IsRefused}
+use Rattle.gr_tokens.specs.declared.Token.{Token}
+use Rattle.gr_tokens.specs.declared.ReadRefusal.{ReadRefusal}
+use Rattle.gr_tokens.specs.declared.ReadRefusal.TheVariants.{Memory}
+use Rattle.gr_reader.specs.Classes.{flat}
+use Rattle.gr_reader.specs.Complaints.{refusal_at}
+use Rattle.gr_reader.specs.Places.{place_of_token}
+use Rattle.gr_reader.specs.declared.complaints.Complaint.{Complaint}
+use Rattle.gr_reader.specs.Files.{IsFileAnswer}
+use Rattle.lx_lexicon.specs.declared.entry.Entry.{Entry}
+use Rattle.lx_lexicon.specs.Grammars.{lexicon_text, lexicon_of}
+use Rattle.lx_lexicon.specs.Complaints.{lexicon_bad}
+use Rattle.lx_lexicon.specs.Entries.{AreEntries}
+
+-- the answer for the tokens of some bytes: the entries of a lexicon without complaints, or the place where no lexicon goes on, or else the first complaint
+abbrev pub IsTokensAnswer : List ℕ → List Token → List (List ℕ) → Result (List Entry) ReadRefusal → Type 0
+IsTokensAnswer bytes tokens texts answer = IsFileAnswer flat lexicon_text (λ ts rest m. lexicon_bad (lexicon_of m)) (λ ts rest m es. AreEntries texts (lexicon_of m) es) bytes tokens answer
+
+-- the bytes have tokens, and the answer is right for these
+pub record IsRead (bytes : List ℕ) (texts : List (List ℕ)) (answer : Result (List Entry) ReadRefusal) : Type 0 where
+  pub tokens : List Token
+  pub are : AreTokens bytes tokens
+  pub right : IsTokensAnswer bytes tokens texts answer
+
+-- the right answer for bytes, by the texts' numbers behind the reading: it is right for their tokens, or they have none for this reason; a refusal may also be for want of memory
+abbrev pub IsLexiconAnswer : List ℕ → List (List ℕ) → Result (List Entry) ReadRefusal → Type 0
+IsLexiconAnswer bytes texts (Ok es) = IsRead bytes texts (Ok es)
+IsLexiconAnswer bytes texts (Err refusal) = (refusal ≡ Memory) ⊎ (IsRefused bytes refusal ⊎ IsRead bytes texts (Err refusal))
+
+-- the entries, or the refusal for the first complaint
+abbrev pub judged : List ℕ → List Token → Option Complaint → List Entry → Result (List Entry) ReadRefusal
+judged bytes tokens None es = Ok es
+judged bytes tokens (Some c) es = Err (refusal_at c.fault (place_of_token bytes tokens (length tokens - c.left)))

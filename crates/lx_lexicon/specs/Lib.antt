@@ -1,0 +1,5 @@
+pub mod Grammars
+pub mod Complaints
+pub mod Entries
+pub mod Reading
+pub mod Answers

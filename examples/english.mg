@@ -41,7 +41,7 @@ class FiniteVerb
 import VerbSpine[]
 export ?s ?vp ?v ?e
 {
-  <syn>{ node ?v (color=white) [cat=v, bot=[mode=ind]] }
+  <syn>{ node ?v [cat=v, bot=[mode=ind]] }
 }
 
 class InfinitiveVerb
@@ -50,9 +50,9 @@ export ?s ?vp ?v ?e
 declare ?to
 {
   <syn>{
-    node ?vp (color=white) [cat=vp] {
+    node ?vp [cat=vp] {
       node ?to (color=red, mark=lex) [cat=to]
-      ,,, node ?v (color=white) [cat=v, bot=[mode=inf]]
+      ,,, node ?v [cat=v, bot=[mode=inf]]
     }
   }
 }
@@ -61,7 +61,7 @@ class GerundVerb
 import VerbSpine[]
 export ?s ?vp ?v ?e
 {
-  <syn>{ node ?v (color=white) [cat=v, bot=[mode=ger]] }
+  <syn>{ node ?v [cat=v, bot=[mode=ger]] }
 }
 
 class PassiveVerb
@@ -70,9 +70,9 @@ export ?s ?vp ?v ?e
 declare ?be
 {
   <syn>{
-    node ?vp (color=white) [cat=vp] {
+    node ?vp [cat=vp] {
       node ?be (color=red, mark=coanchor, name=be) [cat=v, bot=[mode=ind]]
-      ,,, node ?v (color=white) [cat=v, bot=[mode=ppart]]
+      ,,, node ?v [cat=v, bot=[mode=ppart]]
     }
   }
 }
@@ -91,9 +91,9 @@ export ?np ?x
 declare ?s ?np ?vp ?x ?n
 {
   <syn>{
-    node ?s (color=white) [cat=s] {
+    node ?s [cat=s] {
       node ?np (color=red, mark=subst) [cat=np, top=[idx=?x, num=?n, case=nom]]
-      node ?vp (color=white) [cat=vp, bot=[num=?n]]
+      node ?vp [cat=vp, bot=[num=?n]]
     }
   };
   <iface>{ [arg0=?x] }
@@ -106,7 +106,7 @@ declare ?top ?s ?np ?x
   <syn>{
     node ?top (color=red) [cat=s, bot=[wh=plus]] {
       node ?np (color=red, mark=subst) [cat=np, top=[idx=?x, wh=plus, case=nom]]
-      node ?s (color=white) [cat=s]
+      node ?s [cat=s]
     }
   };
   <iface>{ [arg0=?x] }
@@ -121,7 +121,7 @@ declare ?root ?head ?bar ?that ?s ?x
       node ?head (color=red, mark=foot) [cat=np, top=[idx=?x]]
       node ?bar (color=red) [cat=s] {
         node ?that (color=red, mark=lex) [cat=that]
-        node ?s (color=white) [cat=s]
+        node ?s [cat=s]
       }
     }
   };
@@ -133,10 +133,10 @@ export ?np ?x
 declare ?s ?aux ?np ?vp ?x ?n
 {
   <syn>{
-    node ?s (color=white) [cat=s, bot=[inv=plus]] {
+    node ?s [cat=s, bot=[inv=plus]] {
       node ?aux (color=red, mark=coanchor, name=aux) [cat=v, bot=[num=?n]]
       node ?np (color=red, mark=subst) [cat=np, top=[idx=?x, num=?n, case=nom]]
-      node ?vp (color=white) [cat=vp]
+      node ?vp [cat=vp]
     }
   };
   <iface>{ [arg0=?x] }
@@ -145,7 +145,7 @@ declare ?s ?aux ?np ?vp ?x ?n
 class ImperativeSubject
 declare ?s
 {
-  <syn>{ node ?s (color=white) [cat=s, bot=[mode=imp]] };
+  <syn>{ node ?s [cat=s, bot=[mode=imp]] };
   <iface>{ [arg0=you] };
   <sem>{ addressee(you) }
 }
@@ -154,7 +154,7 @@ class ControlledSubject
 export ?x
 declare ?s ?x
 {
-  <syn>{ node ?s (color=white) [cat=s, top=[control=?x]] };
+  <syn>{ node ?s [cat=s, top=[control=?x]] };
   <iface>{ [arg0=?x] }
 }
 
@@ -168,8 +168,8 @@ export ?np ?x
 declare ?vp ?v ?np ?x
 {
   <syn>{
-    node ?vp (color=white) [cat=vp] {
-      node ?v (color=white) [cat=v]
+    node ?vp [cat=vp] {
+      node ?v [cat=v]
       node ?np (color=red, mark=subst) [cat=np, top=[idx=?x, case=acc]]
     }
   };
@@ -183,7 +183,7 @@ declare ?top ?np ?s ?x
   <syn>{
     node ?top (color=red) [cat=s, bot=[wh=plus]] {
       node ?np (color=red, mark=subst) [cat=np, top=[idx=?x, wh=plus, case=acc]]
-      node ?s (color=white) [cat=s, top=[inv=plus]]
+      node ?s [cat=s, top=[inv=plus]]
     }
   };
   <iface>{ [arg1=?x] }
@@ -196,7 +196,7 @@ declare ?root ?head ?s ?x
   <syn>{
     node ?root (color=red) [cat=np, bot=[idx=?x]] {
       node ?head (color=red, mark=foot) [cat=np, top=[idx=?x]]
-      node ?s (color=white) [cat=s]
+      node ?s [cat=s]
     }
   };
   <iface>{ [arg1=?x] }
@@ -207,8 +207,8 @@ export ?x
 declare ?vp ?v ?self ?x
 {
   <syn>{
-    node ?vp (color=white) [cat=vp] {
-      node ?v (color=white) [cat=v]
+    node ?vp [cat=vp] {
+      node ?v [cat=v]
       node ?self (color=red, mark=lex) [cat=self]
     }
   };
@@ -225,8 +225,8 @@ export ?np ?x
 declare ?vp ?v ?np ?x
 {
   <syn>{
-    node ?vp (color=white) [cat=vp] {
-      node ?v (color=white) [cat=v]
+    node ?vp [cat=vp] {
+      node ?v [cat=v]
       ,,, node ?np (color=red, mark=subst) [cat=np, top=[idx=?x, case=acc]]
     }
   };
@@ -240,7 +240,7 @@ declare ?top ?np ?s ?x
   <syn>{
     node ?top (color=red) [cat=s, bot=[wh=plus]] {
       node ?np (color=red, mark=subst) [cat=np, top=[idx=?x, wh=plus, case=acc]]
-      node ?s (color=white) [cat=s, top=[inv=plus]]
+      node ?s [cat=s, top=[inv=plus]]
     }
   };
   <iface>{ [arg2=?x] }
@@ -253,7 +253,7 @@ declare ?root ?head ?s ?x
   <syn>{
     node ?root (color=red) [cat=np, bot=[idx=?x]] {
       node ?head (color=red, mark=foot) [cat=np, top=[idx=?x]]
-      node ?s (color=white) [cat=s]
+      node ?s [cat=s]
     }
   };
   <iface>{ [arg2=?x] }
@@ -264,8 +264,8 @@ export ?x
 declare ?vp ?v ?self ?x
 {
   <syn>{
-    node ?vp (color=white) [cat=vp] {
-      node ?v (color=white) [cat=v]
+    node ?vp [cat=vp] {
+      node ?v [cat=v]
       node ?self (color=red, mark=lex) [cat=self]
     }
   };
@@ -293,8 +293,8 @@ export ?x
 declare ?vp ?v ?pp ?p ?np ?x
 {
   <syn>{
-    node ?vp (color=white) [cat=vp] {
-      node ?v (color=white) [cat=v]
+    node ?vp [cat=vp] {
+      node ?v [cat=v]
       ,,, node ?pp (color=red) [cat=pp] {
         node ?p (color=red, mark=lex) [cat=by]
         node ?np (color=red, mark=subst) [cat=np, top=[idx=?x, case=acc]]
@@ -319,8 +319,8 @@ export ?pp ?np ?x
 declare ?vp ?v ?pp ?p ?np ?x
 {
   <syn>{
-    node ?vp (color=white) [cat=vp] {
-      node ?v (color=white) [cat=v]
+    node ?vp [cat=vp] {
+      node ?v [cat=v]
       ,,, node ?pp (color=red) [cat=pp] {
         node ?p (color=red, mark=lex) [cat=about]
         node ?np (color=red, mark=subst) [cat=np, top=[idx=?x, case=acc]]
@@ -340,7 +340,7 @@ declare ?top ?pp ?p ?np ?s ?x
         node ?p (color=red, mark=lex) [cat=about]
         node ?np (color=red, mark=subst) [cat=np, top=[idx=?x, wh=plus]]
       }
-      node ?s (color=white) [cat=s, top=[inv=plus]]
+      node ?s [cat=s, top=[inv=plus]]
     }
   };
   <iface>{ [about=?x] }
@@ -356,8 +356,8 @@ export ?pp ?np ?x
 declare ?vp ?v ?pp ?p ?np ?x
 {
   <syn>{
-    node ?vp (color=white) [cat=vp] {
-      node ?v (color=white) [cat=v]
+    node ?vp [cat=vp] {
+      node ?v [cat=v]
       ,,, node ?pp (color=red) [cat=pp] {
         node ?p (color=red, mark=lex) [cat=above]
         node ?np (color=red, mark=subst) [cat=np, top=[idx=?x, case=acc]]
@@ -377,7 +377,7 @@ declare ?top ?pp ?p ?np ?s ?x
         node ?p (color=red, mark=lex) [cat=above]
         node ?np (color=red, mark=subst) [cat=np, top=[idx=?x, wh=plus]]
       }
-      node ?s (color=white) [cat=s, top=[inv=plus]]
+      node ?s [cat=s, top=[inv=plus]]
     }
   };
   <iface>{ [above=?x] }
@@ -393,8 +393,8 @@ export ?pp ?np ?x
 declare ?vp ?v ?pp ?p ?np ?x
 {
   <syn>{
-    node ?vp (color=white) [cat=vp] {
-      node ?v (color=white) [cat=v]
+    node ?vp [cat=vp] {
+      node ?v [cat=v]
       ,,, node ?pp (color=red) [cat=pp] {
         node ?p (color=red, mark=lex) [cat=across]
         node ?np (color=red, mark=subst) [cat=np, top=[idx=?x, case=acc]]
@@ -414,7 +414,7 @@ declare ?top ?pp ?p ?np ?s ?x
         node ?p (color=red, mark=lex) [cat=across]
         node ?np (color=red, mark=subst) [cat=np, top=[idx=?x, wh=plus]]
       }
-      node ?s (color=white) [cat=s, top=[inv=plus]]
+      node ?s [cat=s, top=[inv=plus]]
     }
   };
   <iface>{ [across=?x] }
@@ -430,8 +430,8 @@ export ?pp ?np ?x
 declare ?vp ?v ?pp ?p ?np ?x
 {
   <syn>{
-    node ?vp (color=white) [cat=vp] {
-      node ?v (color=white) [cat=v]
+    node ?vp [cat=vp] {
+      node ?v [cat=v]
       ,,, node ?pp (color=red) [cat=pp] {
         node ?p (color=red, mark=lex) [cat=after]
         node ?np (color=red, mark=subst) [cat=np, top=[idx=?x, case=acc]]
@@ -451,7 +451,7 @@ declare ?top ?pp ?p ?np ?s ?x
         node ?p (color=red, mark=lex) [cat=after]
         node ?np (color=red, mark=subst) [cat=np, top=[idx=?x, wh=plus]]
       }
-      node ?s (color=white) [cat=s, top=[inv=plus]]
+      node ?s [cat=s, top=[inv=plus]]
     }
   };
   <iface>{ [after=?x] }
@@ -467,8 +467,8 @@ export ?pp ?np ?x
 declare ?vp ?v ?pp ?p ?np ?x
 {
   <syn>{
-    node ?vp (color=white) [cat=vp] {
-      node ?v (color=white) [cat=v]
+    node ?vp [cat=vp] {
+      node ?v [cat=v]
       ,,, node ?pp (color=red) [cat=pp] {
         node ?p (color=red, mark=lex) [cat=against]
         node ?np (color=red, mark=subst) [cat=np, top=[idx=?x, case=acc]]
@@ -488,7 +488,7 @@ declare ?top ?pp ?p ?np ?s ?x
         node ?p (color=red, mark=lex) [cat=against]
         node ?np (color=red, mark=subst) [cat=np, top=[idx=?x, wh=plus]]
       }
-      node ?s (color=white) [cat=s, top=[inv=plus]]
+      node ?s [cat=s, top=[inv=plus]]
     }
   };
   <iface>{ [against=?x] }
@@ -504,8 +504,8 @@ export ?pp ?np ?x
 declare ?vp ?v ?pp ?p ?np ?x
 {
   <syn>{
-    node ?vp (color=white) [cat=vp] {
-      node ?v (color=white) [cat=v]
+    node ?vp [cat=vp] {
+      node ?v [cat=v]
       ,,, node ?pp (color=red) [cat=pp] {
         node ?p (color=red, mark=lex) [cat=along]
         node ?np (color=red, mark=subst) [cat=np, top=[idx=?x, case=acc]]
@@ -525,7 +525,7 @@ declare ?top ?pp ?p ?np ?s ?x
         node ?p (color=red, mark=lex) [cat=along]
         node ?np (color=red, mark=subst) [cat=np, top=[idx=?x, wh=plus]]
       }
-      node ?s (color=white) [cat=s, top=[inv=plus]]
+      node ?s [cat=s, top=[inv=plus]]
     }
   };
   <iface>{ [along=?x] }
@@ -541,8 +541,8 @@ export ?pp ?np ?x
 declare ?vp ?v ?pp ?p ?np ?x
 {
   <syn>{
-    node ?vp (color=white) [cat=vp] {
-      node ?v (color=white) [cat=v]
+    node ?vp [cat=vp] {
+      node ?v [cat=v]
       ,,, node ?pp (color=red) [cat=pp] {
         node ?p (color=red, mark=lex) [cat=among]
         node ?np (color=red, mark=subst) [cat=np, top=[idx=?x, case=acc]]
@@ -562,7 +562,7 @@ declare ?top ?pp ?p ?np ?s ?x
         node ?p (color=red, mark=lex) [cat=among]
         node ?np (color=red, mark=subst) [cat=np, top=[idx=?x, wh=plus]]
       }
-      node ?s (color=white) [cat=s, top=[inv=plus]]
+      node ?s [cat=s, top=[inv=plus]]
     }
   };
   <iface>{ [among=?x] }
@@ -578,8 +578,8 @@ export ?pp ?np ?x
 declare ?vp ?v ?pp ?p ?np ?x
 {
   <syn>{
-    node ?vp (color=white) [cat=vp] {
-      node ?v (color=white) [cat=v]
+    node ?vp [cat=vp] {
+      node ?v [cat=v]
       ,,, node ?pp (color=red) [cat=pp] {
         node ?p (color=red, mark=lex) [cat=around]
         node ?np (color=red, mark=subst) [cat=np, top=[idx=?x, case=acc]]
@@ -599,7 +599,7 @@ declare ?top ?pp ?p ?np ?s ?x
         node ?p (color=red, mark=lex) [cat=around]
         node ?np (color=red, mark=subst) [cat=np, top=[idx=?x, wh=plus]]
       }
-      node ?s (color=white) [cat=s, top=[inv=plus]]
+      node ?s [cat=s, top=[inv=plus]]
     }
   };
   <iface>{ [around=?x] }
@@ -615,8 +615,8 @@ export ?pp ?np ?x
 declare ?vp ?v ?pp ?p ?np ?x
 {
   <syn>{
-    node ?vp (color=white) [cat=vp] {
-      node ?v (color=white) [cat=v]
+    node ?vp [cat=vp] {
+      node ?v [cat=v]
       ,,, node ?pp (color=red) [cat=pp] {
         node ?p (color=red, mark=lex) [cat=as]
         node ?np (color=red, mark=subst) [cat=np, top=[idx=?x, case=acc]]
@@ -636,7 +636,7 @@ declare ?top ?pp ?p ?np ?s ?x
         node ?p (color=red, mark=lex) [cat=as]
         node ?np (color=red, mark=subst) [cat=np, top=[idx=?x, wh=plus]]
       }
-      node ?s (color=white) [cat=s, top=[inv=plus]]
+      node ?s [cat=s, top=[inv=plus]]
     }
   };
   <iface>{ [as=?x] }
@@ -652,8 +652,8 @@ export ?pp ?np ?x
 declare ?vp ?v ?pp ?p ?np ?x
 {
   <syn>{
-    node ?vp (color=white) [cat=vp] {
-      node ?v (color=white) [cat=v]
+    node ?vp [cat=vp] {
+      node ?v [cat=v]
       ,,, node ?pp (color=red) [cat=pp] {
         node ?p (color=red, mark=lex) [cat=at]
         node ?np (color=red, mark=subst) [cat=np, top=[idx=?x, case=acc]]
@@ -673,7 +673,7 @@ declare ?top ?pp ?p ?np ?s ?x
         node ?p (color=red, mark=lex) [cat=at]
         node ?np (color=red, mark=subst) [cat=np, top=[idx=?x, wh=plus]]
       }
-      node ?s (color=white) [cat=s, top=[inv=plus]]
+      node ?s [cat=s, top=[inv=plus]]
     }
   };
   <iface>{ [at=?x] }
@@ -689,8 +689,8 @@ export ?pp ?np ?x
 declare ?vp ?v ?pp ?p ?np ?x
 {
   <syn>{
-    node ?vp (color=white) [cat=vp] {
-      node ?v (color=white) [cat=v]
+    node ?vp [cat=vp] {
+      node ?v [cat=v]
       ,,, node ?pp (color=red) [cat=pp] {
         node ?p (color=red, mark=lex) [cat=before]
         node ?np (color=red, mark=subst) [cat=np, top=[idx=?x, case=acc]]
@@ -710,7 +710,7 @@ declare ?top ?pp ?p ?np ?s ?x
         node ?p (color=red, mark=lex) [cat=before]
         node ?np (color=red, mark=subst) [cat=np, top=[idx=?x, wh=plus]]
       }
-      node ?s (color=white) [cat=s, top=[inv=plus]]
+      node ?s [cat=s, top=[inv=plus]]
     }
   };
   <iface>{ [before=?x] }
@@ -726,8 +726,8 @@ export ?pp ?np ?x
 declare ?vp ?v ?pp ?p ?np ?x
 {
   <syn>{
-    node ?vp (color=white) [cat=vp] {
-      node ?v (color=white) [cat=v]
+    node ?vp [cat=vp] {
+      node ?v [cat=v]
       ,,, node ?pp (color=red) [cat=pp] {
         node ?p (color=red, mark=lex) [cat=behind]
         node ?np (color=red, mark=subst) [cat=np, top=[idx=?x, case=acc]]
@@ -747,7 +747,7 @@ declare ?top ?pp ?p ?np ?s ?x
         node ?p (color=red, mark=lex) [cat=behind]
         node ?np (color=red, mark=subst) [cat=np, top=[idx=?x, wh=plus]]
       }
-      node ?s (color=white) [cat=s, top=[inv=plus]]
+      node ?s [cat=s, top=[inv=plus]]
     }
   };
   <iface>{ [behind=?x] }
@@ -763,8 +763,8 @@ export ?pp ?np ?x
 declare ?vp ?v ?pp ?p ?np ?x
 {
   <syn>{
-    node ?vp (color=white) [cat=vp] {
-      node ?v (color=white) [cat=v]
+    node ?vp [cat=vp] {
+      node ?v [cat=v]
       ,,, node ?pp (color=red) [cat=pp] {
         node ?p (color=red, mark=lex) [cat=below]
         node ?np (color=red, mark=subst) [cat=np, top=[idx=?x, case=acc]]
@@ -784,7 +784,7 @@ declare ?top ?pp ?p ?np ?s ?x
         node ?p (color=red, mark=lex) [cat=below]
         node ?np (color=red, mark=subst) [cat=np, top=[idx=?x, wh=plus]]
       }
-      node ?s (color=white) [cat=s, top=[inv=plus]]
+      node ?s [cat=s, top=[inv=plus]]
     }
   };
   <iface>{ [below=?x] }
@@ -800,8 +800,8 @@ export ?pp ?np ?x
 declare ?vp ?v ?pp ?p ?np ?x
 {
   <syn>{
-    node ?vp (color=white) [cat=vp] {
-      node ?v (color=white) [cat=v]
+    node ?vp [cat=vp] {
+      node ?v [cat=v]
       ,,, node ?pp (color=red) [cat=pp] {
         node ?p (color=red, mark=lex) [cat=beneath]
         node ?np (color=red, mark=subst) [cat=np, top=[idx=?x, case=acc]]
@@ -821,7 +821,7 @@ declare ?top ?pp ?p ?np ?s ?x
         node ?p (color=red, mark=lex) [cat=beneath]
         node ?np (color=red, mark=subst) [cat=np, top=[idx=?x, wh=plus]]
       }
-      node ?s (color=white) [cat=s, top=[inv=plus]]
+      node ?s [cat=s, top=[inv=plus]]
     }
   };
   <iface>{ [beneath=?x] }
@@ -837,8 +837,8 @@ export ?pp ?np ?x
 declare ?vp ?v ?pp ?p ?np ?x
 {
   <syn>{
-    node ?vp (color=white) [cat=vp] {
-      node ?v (color=white) [cat=v]
+    node ?vp [cat=vp] {
+      node ?v [cat=v]
       ,,, node ?pp (color=red) [cat=pp] {
         node ?p (color=red, mark=lex) [cat=beside]
         node ?np (color=red, mark=subst) [cat=np, top=[idx=?x, case=acc]]
@@ -858,7 +858,7 @@ declare ?top ?pp ?p ?np ?s ?x
         node ?p (color=red, mark=lex) [cat=beside]
         node ?np (color=red, mark=subst) [cat=np, top=[idx=?x, wh=plus]]
       }
-      node ?s (color=white) [cat=s, top=[inv=plus]]
+      node ?s [cat=s, top=[inv=plus]]
     }
   };
   <iface>{ [beside=?x] }
@@ -874,8 +874,8 @@ export ?pp ?np ?x
 declare ?vp ?v ?pp ?p ?np ?x
 {
   <syn>{
-    node ?vp (color=white) [cat=vp] {
-      node ?v (color=white) [cat=v]
+    node ?vp [cat=vp] {
+      node ?v [cat=v]
       ,,, node ?pp (color=red) [cat=pp] {
         node ?p (color=red, mark=lex) [cat=between]
         node ?np (color=red, mark=subst) [cat=np, top=[idx=?x, case=acc]]
@@ -895,7 +895,7 @@ declare ?top ?pp ?p ?np ?s ?x
         node ?p (color=red, mark=lex) [cat=between]
         node ?np (color=red, mark=subst) [cat=np, top=[idx=?x, wh=plus]]
       }
-      node ?s (color=white) [cat=s, top=[inv=plus]]
+      node ?s [cat=s, top=[inv=plus]]
     }
   };
   <iface>{ [between=?x] }
@@ -911,8 +911,8 @@ export ?pp ?np ?x
 declare ?vp ?v ?pp ?p ?np ?x
 {
   <syn>{
-    node ?vp (color=white) [cat=vp] {
-      node ?v (color=white) [cat=v]
+    node ?vp [cat=vp] {
+      node ?v [cat=v]
       ,,, node ?pp (color=red) [cat=pp] {
         node ?p (color=red, mark=lex) [cat=beyond]
         node ?np (color=red, mark=subst) [cat=np, top=[idx=?x, case=acc]]
@@ -932,7 +932,7 @@ declare ?top ?pp ?p ?np ?s ?x
         node ?p (color=red, mark=lex) [cat=beyond]
         node ?np (color=red, mark=subst) [cat=np, top=[idx=?x, wh=plus]]
       }
-      node ?s (color=white) [cat=s, top=[inv=plus]]
+      node ?s [cat=s, top=[inv=plus]]
     }
   };
   <iface>{ [beyond=?x] }
@@ -948,8 +948,8 @@ export ?pp ?np ?x
 declare ?vp ?v ?pp ?p ?np ?x
 {
   <syn>{
-    node ?vp (color=white) [cat=vp] {
-      node ?v (color=white) [cat=v]
+    node ?vp [cat=vp] {
+      node ?v [cat=v]
       ,,, node ?pp (color=red) [cat=pp] {
         node ?p (color=red, mark=lex) [cat=by]
         node ?np (color=red, mark=subst) [cat=np, top=[idx=?x, case=acc]]
@@ -969,7 +969,7 @@ declare ?top ?pp ?p ?np ?s ?x
         node ?p (color=red, mark=lex) [cat=by]
         node ?np (color=red, mark=subst) [cat=np, top=[idx=?x, wh=plus]]
       }
-      node ?s (color=white) [cat=s, top=[inv=plus]]
+      node ?s [cat=s, top=[inv=plus]]
     }
   };
   <iface>{ [by=?x] }
@@ -985,8 +985,8 @@ export ?pp ?np ?x
 declare ?vp ?v ?pp ?p ?np ?x
 {
   <syn>{
-    node ?vp (color=white) [cat=vp] {
-      node ?v (color=white) [cat=v]
+    node ?vp [cat=vp] {
+      node ?v [cat=v]
       ,,, node ?pp (color=red) [cat=pp] {
         node ?p (color=red, mark=lex) [cat=down]
         node ?np (color=red, mark=subst) [cat=np, top=[idx=?x, case=acc]]
@@ -1006,7 +1006,7 @@ declare ?top ?pp ?p ?np ?s ?x
         node ?p (color=red, mark=lex) [cat=down]
         node ?np (color=red, mark=subst) [cat=np, top=[idx=?x, wh=plus]]
       }
-      node ?s (color=white) [cat=s, top=[inv=plus]]
+      node ?s [cat=s, top=[inv=plus]]
     }
   };
   <iface>{ [down=?x] }
@@ -1022,8 +1022,8 @@ export ?pp ?np ?x
 declare ?vp ?v ?pp ?p ?np ?x
 {
   <syn>{
-    node ?vp (color=white) [cat=vp] {
-      node ?v (color=white) [cat=v]
+    node ?vp [cat=vp] {
+      node ?v [cat=v]
       ,,, node ?pp (color=red) [cat=pp] {
         node ?p (color=red, mark=lex) [cat=during]
         node ?np (color=red, mark=subst) [cat=np, top=[idx=?x, case=acc]]
@@ -1043,7 +1043,7 @@ declare ?top ?pp ?p ?np ?s ?x
         node ?p (color=red, mark=lex) [cat=during]
         node ?np (color=red, mark=subst) [cat=np, top=[idx=?x, wh=plus]]
       }
-      node ?s (color=white) [cat=s, top=[inv=plus]]
+      node ?s [cat=s, top=[inv=plus]]
     }
   };
   <iface>{ [during=?x] }
@@ -1059,8 +1059,8 @@ export ?pp ?np ?x
 declare ?vp ?v ?pp ?p ?np ?x
 {
   <syn>{
-    node ?vp (color=white) [cat=vp] {
-      node ?v (color=white) [cat=v]
+    node ?vp [cat=vp] {
+      node ?v [cat=v]
       ,,, node ?pp (color=red) [cat=pp] {
         node ?p (color=red, mark=lex) [cat=for]
         node ?np (color=red, mark=subst) [cat=np, top=[idx=?x, case=acc]]
@@ -1080,7 +1080,7 @@ declare ?top ?pp ?p ?np ?s ?x
         node ?p (color=red, mark=lex) [cat=for]
         node ?np (color=red, mark=subst) [cat=np, top=[idx=?x, wh=plus]]
       }
-      node ?s (color=white) [cat=s, top=[inv=plus]]
+      node ?s [cat=s, top=[inv=plus]]
     }
   };
   <iface>{ [for=?x] }
@@ -1096,8 +1096,8 @@ export ?pp ?np ?x
 declare ?vp ?v ?pp ?p ?np ?x
 {
   <syn>{
-    node ?vp (color=white) [cat=vp] {
-      node ?v (color=white) [cat=v]
+    node ?vp [cat=vp] {
+      node ?v [cat=v]
       ,,, node ?pp (color=red) [cat=pp] {
         node ?p (color=red, mark=lex) [cat=from]
         node ?np (color=red, mark=subst) [cat=np, top=[idx=?x, case=acc]]
@@ -1117,7 +1117,7 @@ declare ?top ?pp ?p ?np ?s ?x
         node ?p (color=red, mark=lex) [cat=from]
         node ?np (color=red, mark=subst) [cat=np, top=[idx=?x, wh=plus]]
       }
-      node ?s (color=white) [cat=s, top=[inv=plus]]
+      node ?s [cat=s, top=[inv=plus]]
     }
   };
   <iface>{ [from=?x] }
@@ -1133,8 +1133,8 @@ export ?pp ?np ?x
 declare ?vp ?v ?pp ?p ?np ?x
 {
   <syn>{
-    node ?vp (color=white) [cat=vp] {
-      node ?v (color=white) [cat=v]
+    node ?vp [cat=vp] {
+      node ?v [cat=v]
       ,,, node ?pp (color=red) [cat=pp] {
         node ?p (color=red, mark=lex) [cat=in]
         node ?np (color=red, mark=subst) [cat=np, top=[idx=?x, case=acc]]
@@ -1154,7 +1154,7 @@ declare ?top ?pp ?p ?np ?s ?x
         node ?p (color=red, mark=lex) [cat=in]
         node ?np (color=red, mark=subst) [cat=np, top=[idx=?x, wh=plus]]
       }
-      node ?s (color=white) [cat=s, top=[inv=plus]]
+      node ?s [cat=s, top=[inv=plus]]
     }
   };
   <iface>{ [in=?x] }
@@ -1170,8 +1170,8 @@ export ?pp ?np ?x
 declare ?vp ?v ?pp ?p ?np ?x
 {
   <syn>{
-    node ?vp (color=white) [cat=vp] {
-      node ?v (color=white) [cat=v]
+    node ?vp [cat=vp] {
+      node ?v [cat=v]
       ,,, node ?pp (color=red) [cat=pp] {
         node ?p (color=red, mark=lex) [cat=inside]
         node ?np (color=red, mark=subst) [cat=np, top=[idx=?x, case=acc]]
@@ -1191,7 +1191,7 @@ declare ?top ?pp ?p ?np ?s ?x
         node ?p (color=red, mark=lex) [cat=inside]
         node ?np (color=red, mark=subst) [cat=np, top=[idx=?x, wh=plus]]
       }
-      node ?s (color=white) [cat=s, top=[inv=plus]]
+      node ?s [cat=s, top=[inv=plus]]
     }
   };
   <iface>{ [inside=?x] }
@@ -1207,8 +1207,8 @@ export ?pp ?np ?x
 declare ?vp ?v ?pp ?p ?np ?x
 {
   <syn>{
-    node ?vp (color=white) [cat=vp] {
-      node ?v (color=white) [cat=v]
+    node ?vp [cat=vp] {
+      node ?v [cat=v]
       ,,, node ?pp (color=red) [cat=pp] {
         node ?p (color=red, mark=lex) [cat=into]
         node ?np (color=red, mark=subst) [cat=np, top=[idx=?x, case=acc]]
@@ -1228,7 +1228,7 @@ declare ?top ?pp ?p ?np ?s ?x
         node ?p (color=red, mark=lex) [cat=into]
         node ?np (color=red, mark=subst) [cat=np, top=[idx=?x, wh=plus]]
       }
-      node ?s (color=white) [cat=s, top=[inv=plus]]
+      node ?s [cat=s, top=[inv=plus]]
     }
   };
   <iface>{ [into=?x] }
@@ -1244,8 +1244,8 @@ export ?pp ?np ?x
 declare ?vp ?v ?pp ?p ?np ?x
 {
   <syn>{
-    node ?vp (color=white) [cat=vp] {
-      node ?v (color=white) [cat=v]
+    node ?vp [cat=vp] {
+      node ?v [cat=v]
       ,,, node ?pp (color=red) [cat=pp] {
         node ?p (color=red, mark=lex) [cat=near]
         node ?np (color=red, mark=subst) [cat=np, top=[idx=?x, case=acc]]
@@ -1265,7 +1265,7 @@ declare ?top ?pp ?p ?np ?s ?x
         node ?p (color=red, mark=lex) [cat=near]
         node ?np (color=red, mark=subst) [cat=np, top=[idx=?x, wh=plus]]
       }
-      node ?s (color=white) [cat=s, top=[inv=plus]]
+      node ?s [cat=s, top=[inv=plus]]
     }
   };
   <iface>{ [near=?x] }
@@ -1281,8 +1281,8 @@ export ?pp ?np ?x
 declare ?vp ?v ?pp ?p ?np ?x
 {
   <syn>{
-    node ?vp (color=white) [cat=vp] {
-      node ?v (color=white) [cat=v]
+    node ?vp [cat=vp] {
+      node ?v [cat=v]
       ,,, node ?pp (color=red) [cat=pp] {
         node ?p (color=red, mark=lex) [cat=of]
         node ?np (color=red, mark=subst) [cat=np, top=[idx=?x, case=acc]]
@@ -1302,7 +1302,7 @@ declare ?top ?pp ?p ?np ?s ?x
         node ?p (color=red, mark=lex) [cat=of]
         node ?np (color=red, mark=subst) [cat=np, top=[idx=?x, wh=plus]]
       }
-      node ?s (color=white) [cat=s, top=[inv=plus]]
+      node ?s [cat=s, top=[inv=plus]]
     }
   };
   <iface>{ [of=?x] }
@@ -1318,8 +1318,8 @@ export ?pp ?np ?x
 declare ?vp ?v ?pp ?p ?np ?x
 {
   <syn>{
-    node ?vp (color=white) [cat=vp] {
-      node ?v (color=white) [cat=v]
+    node ?vp [cat=vp] {
+      node ?v [cat=v]
       ,,, node ?pp (color=red) [cat=pp] {
         node ?p (color=red, mark=lex) [cat=off]
         node ?np (color=red, mark=subst) [cat=np, top=[idx=?x, case=acc]]
@@ -1339,7 +1339,7 @@ declare ?top ?pp ?p ?np ?s ?x
         node ?p (color=red, mark=lex) [cat=off]
         node ?np (color=red, mark=subst) [cat=np, top=[idx=?x, wh=plus]]
       }
-      node ?s (color=white) [cat=s, top=[inv=plus]]
+      node ?s [cat=s, top=[inv=plus]]
     }
   };
   <iface>{ [off=?x] }
@@ -1355,8 +1355,8 @@ export ?pp ?np ?x
 declare ?vp ?v ?pp ?p ?np ?x
 {
   <syn>{
-    node ?vp (color=white) [cat=vp] {
-      node ?v (color=white) [cat=v]
+    node ?vp [cat=vp] {
+      node ?v [cat=v]
       ,,, node ?pp (color=red) [cat=pp] {
         node ?p (color=red, mark=lex) [cat=on]
         node ?np (color=red, mark=subst) [cat=np, top=[idx=?x, case=acc]]
@@ -1376,7 +1376,7 @@ declare ?top ?pp ?p ?np ?s ?x
         node ?p (color=red, mark=lex) [cat=on]
         node ?np (color=red, mark=subst) [cat=np, top=[idx=?x, wh=plus]]
       }
-      node ?s (color=white) [cat=s, top=[inv=plus]]
+      node ?s [cat=s, top=[inv=plus]]
     }
   };
   <iface>{ [on=?x] }
@@ -1392,8 +1392,8 @@ export ?pp ?np ?x
 declare ?vp ?v ?pp ?p ?np ?x
 {
   <syn>{
-    node ?vp (color=white) [cat=vp] {
-      node ?v (color=white) [cat=v]
+    node ?vp [cat=vp] {
+      node ?v [cat=v]
       ,,, node ?pp (color=red) [cat=pp] {
         node ?p (color=red, mark=lex) [cat=onto]
         node ?np (color=red, mark=subst) [cat=np, top=[idx=?x, case=acc]]
@@ -1413,7 +1413,7 @@ declare ?top ?pp ?p ?np ?s ?x
         node ?p (color=red, mark=lex) [cat=onto]
         node ?np (color=red, mark=subst) [cat=np, top=[idx=?x, wh=plus]]
       }
-      node ?s (color=white) [cat=s, top=[inv=plus]]
+      node ?s [cat=s, top=[inv=plus]]
     }
   };
   <iface>{ [onto=?x] }
@@ -1429,8 +1429,8 @@ export ?pp ?np ?x
 declare ?vp ?v ?pp ?p ?np ?x
 {
   <syn>{
-    node ?vp (color=white) [cat=vp] {
-      node ?v (color=white) [cat=v]
+    node ?vp [cat=vp] {
+      node ?v [cat=v]
       ,,, node ?pp (color=red) [cat=pp] {
         node ?p (color=red, mark=lex) [cat=out]
         node ?np (color=red, mark=subst) [cat=np, top=[idx=?x, case=acc]]
@@ -1450,7 +1450,7 @@ declare ?top ?pp ?p ?np ?s ?x
         node ?p (color=red, mark=lex) [cat=out]
         node ?np (color=red, mark=subst) [cat=np, top=[idx=?x, wh=plus]]
       }
-      node ?s (color=white) [cat=s, top=[inv=plus]]
+      node ?s [cat=s, top=[inv=plus]]
     }
   };
   <iface>{ [out=?x] }
@@ -1466,8 +1466,8 @@ export ?pp ?np ?x
 declare ?vp ?v ?pp ?p ?np ?x
 {
   <syn>{
-    node ?vp (color=white) [cat=vp] {
-      node ?v (color=white) [cat=v]
+    node ?vp [cat=vp] {
+      node ?v [cat=v]
       ,,, node ?pp (color=red) [cat=pp] {
         node ?p (color=red, mark=lex) [cat=over]
         node ?np (color=red, mark=subst) [cat=np, top=[idx=?x, case=acc]]
@@ -1487,7 +1487,7 @@ declare ?top ?pp ?p ?np ?s ?x
         node ?p (color=red, mark=lex) [cat=over]
         node ?np (color=red, mark=subst) [cat=np, top=[idx=?x, wh=plus]]
       }
-      node ?s (color=white) [cat=s, top=[inv=plus]]
+      node ?s [cat=s, top=[inv=plus]]
     }
   };
   <iface>{ [over=?x] }
@@ -1503,8 +1503,8 @@ export ?pp ?np ?x
 declare ?vp ?v ?pp ?p ?np ?x
 {
   <syn>{
-    node ?vp (color=white) [cat=vp] {
-      node ?v (color=white) [cat=v]
+    node ?vp [cat=vp] {
+      node ?v [cat=v]
       ,,, node ?pp (color=red) [cat=pp] {
         node ?p (color=red, mark=lex) [cat=past]
         node ?np (color=red, mark=subst) [cat=np, top=[idx=?x, case=acc]]
@@ -1524,7 +1524,7 @@ declare ?top ?pp ?p ?np ?s ?x
         node ?p (color=red, mark=lex) [cat=past]
         node ?np (color=red, mark=subst) [cat=np, top=[idx=?x, wh=plus]]
       }
-      node ?s (color=white) [cat=s, top=[inv=plus]]
+      node ?s [cat=s, top=[inv=plus]]
     }
   };
   <iface>{ [past=?x] }
@@ -1540,8 +1540,8 @@ export ?pp ?np ?x
 declare ?vp ?v ?pp ?p ?np ?x
 {
   <syn>{
-    node ?vp (color=white) [cat=vp] {
-      node ?v (color=white) [cat=v]
+    node ?vp [cat=vp] {
+      node ?v [cat=v]
       ,,, node ?pp (color=red) [cat=pp] {
         node ?p (color=red, mark=lex) [cat=round]
         node ?np (color=red, mark=subst) [cat=np, top=[idx=?x, case=acc]]
@@ -1561,7 +1561,7 @@ declare ?top ?pp ?p ?np ?s ?x
         node ?p (color=red, mark=lex) [cat=round]
         node ?np (color=red, mark=subst) [cat=np, top=[idx=?x, wh=plus]]
       }
-      node ?s (color=white) [cat=s, top=[inv=plus]]
+      node ?s [cat=s, top=[inv=plus]]
     }
   };
   <iface>{ [round=?x] }
@@ -1577,8 +1577,8 @@ export ?pp ?np ?x
 declare ?vp ?v ?pp ?p ?np ?x
 {
   <syn>{
-    node ?vp (color=white) [cat=vp] {
-      node ?v (color=white) [cat=v]
+    node ?vp [cat=vp] {
+      node ?v [cat=v]
       ,,, node ?pp (color=red) [cat=pp] {
         node ?p (color=red, mark=lex) [cat=since]
         node ?np (color=red, mark=subst) [cat=np, top=[idx=?x, case=acc]]
@@ -1598,7 +1598,7 @@ declare ?top ?pp ?p ?np ?s ?x
         node ?p (color=red, mark=lex) [cat=since]
         node ?np (color=red, mark=subst) [cat=np, top=[idx=?x, wh=plus]]
       }
-      node ?s (color=white) [cat=s, top=[inv=plus]]
+      node ?s [cat=s, top=[inv=plus]]
     }
   };
   <iface>{ [since=?x] }
@@ -1614,8 +1614,8 @@ export ?pp ?np ?x
 declare ?vp ?v ?pp ?p ?np ?x
 {
   <syn>{
-    node ?vp (color=white) [cat=vp] {
-      node ?v (color=white) [cat=v]
+    node ?vp [cat=vp] {
+      node ?v [cat=v]
       ,,, node ?pp (color=red) [cat=pp] {
         node ?p (color=red, mark=lex) [cat=through]
         node ?np (color=red, mark=subst) [cat=np, top=[idx=?x, case=acc]]
@@ -1635,7 +1635,7 @@ declare ?top ?pp ?p ?np ?s ?x
         node ?p (color=red, mark=lex) [cat=through]
         node ?np (color=red, mark=subst) [cat=np, top=[idx=?x, wh=plus]]
       }
-      node ?s (color=white) [cat=s, top=[inv=plus]]
+      node ?s [cat=s, top=[inv=plus]]
     }
   };
   <iface>{ [through=?x] }
@@ -1651,8 +1651,8 @@ export ?pp ?np ?x
 declare ?vp ?v ?pp ?p ?np ?x
 {
   <syn>{
-    node ?vp (color=white) [cat=vp] {
-      node ?v (color=white) [cat=v]
+    node ?vp [cat=vp] {
+      node ?v [cat=v]
       ,,, node ?pp (color=red) [cat=pp] {
         node ?p (color=red, mark=lex) [cat=to]
         node ?np (color=red, mark=subst) [cat=np, top=[idx=?x, case=acc]]
@@ -1672,7 +1672,7 @@ declare ?top ?pp ?p ?np ?s ?x
         node ?p (color=red, mark=lex) [cat=to]
         node ?np (color=red, mark=subst) [cat=np, top=[idx=?x, wh=plus]]
       }
-      node ?s (color=white) [cat=s, top=[inv=plus]]
+      node ?s [cat=s, top=[inv=plus]]
     }
   };
   <iface>{ [to=?x] }
@@ -1688,8 +1688,8 @@ export ?pp ?np ?x
 declare ?vp ?v ?pp ?p ?np ?x
 {
   <syn>{
-    node ?vp (color=white) [cat=vp] {
-      node ?v (color=white) [cat=v]
+    node ?vp [cat=vp] {
+      node ?v [cat=v]
       ,,, node ?pp (color=red) [cat=pp] {
         node ?p (color=red, mark=lex) [cat=toward]
         node ?np (color=red, mark=subst) [cat=np, top=[idx=?x, case=acc]]
@@ -1709,7 +1709,7 @@ declare ?top ?pp ?p ?np ?s ?x
         node ?p (color=red, mark=lex) [cat=toward]
         node ?np (color=red, mark=subst) [cat=np, top=[idx=?x, wh=plus]]
       }
-      node ?s (color=white) [cat=s, top=[inv=plus]]
+      node ?s [cat=s, top=[inv=plus]]
     }
   };
   <iface>{ [toward=?x] }
@@ -1725,8 +1725,8 @@ export ?pp ?np ?x
 declare ?vp ?v ?pp ?p ?np ?x
 {
   <syn>{
-    node ?vp (color=white) [cat=vp] {
-      node ?v (color=white) [cat=v]
+    node ?vp [cat=vp] {
+      node ?v [cat=v]
       ,,, node ?pp (color=red) [cat=pp] {
         node ?p (color=red, mark=lex) [cat=under]
         node ?np (color=red, mark=subst) [cat=np, top=[idx=?x, case=acc]]
@@ -1746,7 +1746,7 @@ declare ?top ?pp ?p ?np ?s ?x
         node ?p (color=red, mark=lex) [cat=under]
         node ?np (color=red, mark=subst) [cat=np, top=[idx=?x, wh=plus]]
       }
-      node ?s (color=white) [cat=s, top=[inv=plus]]
+      node ?s [cat=s, top=[inv=plus]]
     }
   };
   <iface>{ [under=?x] }
@@ -1762,8 +1762,8 @@ export ?pp ?np ?x
 declare ?vp ?v ?pp ?p ?np ?x
 {
   <syn>{
-    node ?vp (color=white) [cat=vp] {
-      node ?v (color=white) [cat=v]
+    node ?vp [cat=vp] {
+      node ?v [cat=v]
       ,,, node ?pp (color=red) [cat=pp] {
         node ?p (color=red, mark=lex) [cat=until]
         node ?np (color=red, mark=subst) [cat=np, top=[idx=?x, case=acc]]
@@ -1783,7 +1783,7 @@ declare ?top ?pp ?p ?np ?s ?x
         node ?p (color=red, mark=lex) [cat=until]
         node ?np (color=red, mark=subst) [cat=np, top=[idx=?x, wh=plus]]
       }
-      node ?s (color=white) [cat=s, top=[inv=plus]]
+      node ?s [cat=s, top=[inv=plus]]
     }
   };
   <iface>{ [until=?x] }
@@ -1799,8 +1799,8 @@ export ?pp ?np ?x
 declare ?vp ?v ?pp ?p ?np ?x
 {
   <syn>{
-    node ?vp (color=white) [cat=vp] {
-      node ?v (color=white) [cat=v]
+    node ?vp [cat=vp] {
+      node ?v [cat=v]
       ,,, node ?pp (color=red) [cat=pp] {
         node ?p (color=red, mark=lex) [cat=up]
         node ?np (color=red, mark=subst) [cat=np, top=[idx=?x, case=acc]]
@@ -1820,7 +1820,7 @@ declare ?top ?pp ?p ?np ?s ?x
         node ?p (color=red, mark=lex) [cat=up]
         node ?np (color=red, mark=subst) [cat=np, top=[idx=?x, wh=plus]]
       }
-      node ?s (color=white) [cat=s, top=[inv=plus]]
+      node ?s [cat=s, top=[inv=plus]]
     }
   };
   <iface>{ [up=?x] }
@@ -1836,8 +1836,8 @@ export ?pp ?np ?x
 declare ?vp ?v ?pp ?p ?np ?x
 {
   <syn>{
-    node ?vp (color=white) [cat=vp] {
-      node ?v (color=white) [cat=v]
+    node ?vp [cat=vp] {
+      node ?v [cat=v]
       ,,, node ?pp (color=red) [cat=pp] {
         node ?p (color=red, mark=lex) [cat=upon]
         node ?np (color=red, mark=subst) [cat=np, top=[idx=?x, case=acc]]
@@ -1857,7 +1857,7 @@ declare ?top ?pp ?p ?np ?s ?x
         node ?p (color=red, mark=lex) [cat=upon]
         node ?np (color=red, mark=subst) [cat=np, top=[idx=?x, wh=plus]]
       }
-      node ?s (color=white) [cat=s, top=[inv=plus]]
+      node ?s [cat=s, top=[inv=plus]]
     }
   };
   <iface>{ [upon=?x] }
@@ -1873,8 +1873,8 @@ export ?pp ?np ?x
 declare ?vp ?v ?pp ?p ?np ?x
 {
   <syn>{
-    node ?vp (color=white) [cat=vp] {
-      node ?v (color=white) [cat=v]
+    node ?vp [cat=vp] {
+      node ?v [cat=v]
       ,,, node ?pp (color=red) [cat=pp] {
         node ?p (color=red, mark=lex) [cat=via]
         node ?np (color=red, mark=subst) [cat=np, top=[idx=?x, case=acc]]
@@ -1894,7 +1894,7 @@ declare ?top ?pp ?p ?np ?s ?x
         node ?p (color=red, mark=lex) [cat=via]
         node ?np (color=red, mark=subst) [cat=np, top=[idx=?x, wh=plus]]
       }
-      node ?s (color=white) [cat=s, top=[inv=plus]]
+      node ?s [cat=s, top=[inv=plus]]
     }
   };
   <iface>{ [via=?x] }
@@ -1910,8 +1910,8 @@ export ?pp ?np ?x
 declare ?vp ?v ?pp ?p ?np ?x
 {
   <syn>{
-    node ?vp (color=white) [cat=vp] {
-      node ?v (color=white) [cat=v]
+    node ?vp [cat=vp] {
+      node ?v [cat=v]
       ,,, node ?pp (color=red) [cat=pp] {
         node ?p (color=red, mark=lex) [cat=with]
         node ?np (color=red, mark=subst) [cat=np, top=[idx=?x, case=acc]]
@@ -1931,7 +1931,7 @@ declare ?top ?pp ?p ?np ?s ?x
         node ?p (color=red, mark=lex) [cat=with]
         node ?np (color=red, mark=subst) [cat=np, top=[idx=?x, wh=plus]]
       }
-      node ?s (color=white) [cat=s, top=[inv=plus]]
+      node ?s [cat=s, top=[inv=plus]]
     }
   };
   <iface>{ [with=?x] }
@@ -1947,8 +1947,8 @@ export ?pp ?np ?x
 declare ?vp ?v ?pp ?p ?np ?x
 {
   <syn>{
-    node ?vp (color=white) [cat=vp] {
-      node ?v (color=white) [cat=v]
+    node ?vp [cat=vp] {
+      node ?v [cat=v]
       ,,, node ?pp (color=red) [cat=pp] {
         node ?p (color=red, mark=lex) [cat=within]
         node ?np (color=red, mark=subst) [cat=np, top=[idx=?x, case=acc]]
@@ -1968,7 +1968,7 @@ declare ?top ?pp ?p ?np ?s ?x
         node ?p (color=red, mark=lex) [cat=within]
         node ?np (color=red, mark=subst) [cat=np, top=[idx=?x, wh=plus]]
       }
-      node ?s (color=white) [cat=s, top=[inv=plus]]
+      node ?s [cat=s, top=[inv=plus]]
     }
   };
   <iface>{ [within=?x] }
@@ -1984,8 +1984,8 @@ export ?pp ?np ?x
 declare ?vp ?v ?pp ?p ?np ?x
 {
   <syn>{
-    node ?vp (color=white) [cat=vp] {
-      node ?v (color=white) [cat=v]
+    node ?vp [cat=vp] {
+      node ?v [cat=v]
       ,,, node ?pp (color=red) [cat=pp] {
         node ?p (color=red, mark=lex) [cat=without]
         node ?np (color=red, mark=subst) [cat=np, top=[idx=?x, case=acc]]
@@ -2005,7 +2005,7 @@ declare ?top ?pp ?p ?np ?s ?x
         node ?p (color=red, mark=lex) [cat=without]
         node ?np (color=red, mark=subst) [cat=np, top=[idx=?x, wh=plus]]
       }
-      node ?s (color=white) [cat=s, top=[inv=plus]]
+      node ?s [cat=s, top=[inv=plus]]
     }
   };
   <iface>{ [without=?x] }
@@ -2073,8 +2073,8 @@ declare ?vp ?v ?clause ?q ?h
     ?vp -> ?v;
     ?vp -> ?clause;
     ?v >>+ ?clause;
-    node ?vp (color=white) [cat=vp];
-    node ?v (color=white) [cat=v];
+    node ?vp [cat=vp];
+    node ?v [cat=v];
     node ?clause (color=red, mark=foot) [cat=s, top=[mode=ind]]
   };
   <iface>{ [arg1=?q] };

@@ -1,0 +1,16 @@
+pub mod Same
+pub mod FirstLemmas
+pub mod KeptLemmas
+pub mod RawLemmas
+pub mod BagLemmas
+pub mod Plain
+pub mod Naming
+pub mod Rows
+pub mod Finish
+pub mod FileLemmas
+pub mod VariableLemmas
+pub mod Spelled
+pub mod GroundLemmas
+pub mod OneFile
+pub mod OneInput
+pub mod LawLemmas

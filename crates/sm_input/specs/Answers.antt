@@ -1,0 +1,53 @@
+-- Which answers are right for a file of inputs.
+use Rattle.std.specs.Prelude.{◌≡◌, ℕ, ◌-◌, List, length, ◌⊎◌, Option, Some, None, Result, Ok, Err, Vec}
+use Rattle.std.specs.declared.alloc.Global.{Global}
+use Rattle.gr_tokens.specs.Answers.{AreTokens, IsRefused}
+use Rattle.gr_tokens.specs.declared.Token.{Token}
+use Rattle.gr_tokens.specs.declared.ReadRefusal.{ReadRefusal}
+use Rattle.gr_tokens.specs.declared.ReadRefusal.TheVariants.{Memory}
+use Rattle.gr_reader.specs.Classes.{flat}
+use Rattle.gr_reader.specs.Complaints.{noted, refusal_at}
+use Rattle.gr_reader.specs.Places.{place_of_token}
+use Rattle.gr_reader.specs.declared.complaints.Complaint.{Complaint}
+use Rattle.gr_reader.specs.declared.complaints.Fault.TheVariants.{Variable}
+use Rattle.gr_reader.specs.Files.{IsFileAnswer}
+use Rattle.sm_input.specs.declared.input.Input.{Input}
+use Rattle.sm_input.specs.Grammars.{inputs_text, inputs_of}
+use Rattle.sm_input.specs.Complaints.{file_bad}
+use Rattle.sm_input.specs.Inputs.{AreInputs}
+
+-- inputs as a file has them, in its order
+abbrev pub Inputs : Type 0
+Inputs = Vec Input Global
+
+-- the answer for the tokens of some bytes: the inputs of a text without complaints, or the place where no inputs go on, or else the first complaint
+abbrev pub IsTokensAnswer : List ℕ → List Token → List (List ℕ) → Result Inputs ReadRefusal → Type 0
+IsTokensAnswer bytes tokens texts answer = IsFileAnswer flat inputs_text (λ ts rest m. file_bad m) (λ ts rest m is. AreInputs texts (inputs_of m) is.items) bytes tokens answer
+
+-- the bytes have tokens, and the answer is right for these
+pub record IsRead (bytes : List ℕ) (texts : List (List ℕ)) (answer : Result Inputs ReadRefusal) : Type 0 where
+  pub tokens : List Token
+  pub are : AreTokens bytes tokens
+  pub right : IsTokensAnswer bytes tokens texts answer
+
+-- the right answer for bytes, by the texts' numbers behind the reading: it is right for their tokens, or they have none for this reason; a refusal may also be for want of memory
+abbrev pub IsInputsAnswer : List ℕ → List (List ℕ) → Result Inputs ReadRefusal → Type 0
+IsInputsAnswer bytes texts (Ok is) = IsRead bytes texts (Ok is)
+IsInputsAnswer bytes texts (Err refusal) = (refusal ≡ Memory) ⊎ (IsRefused bytes refusal ⊎ IsRead bytes texts (Err refusal))
+
+-- the inputs, or the refusal for the first complaint
+abbrev pub judged : List ℕ → List Token → Option Complaint → Inputs → Result Inputs ReadRefusal
+judged bytes tokens None is = Ok is
+judged bytes tokens (Some c) is = Err (refusal_at c.fault (place_of_token bytes tokens (length tokens - c.left)))
+
+-- the first complaint, with one of the first variable
+abbrev pub noted_at : Option Complaint → Option ℕ → Option Complaint
+noted_at c None = c
+noted_at c (Some left) = noted c (record { fault = Variable; left = left })
+
+-- the answers are the same: the same inputs in the same order, or the same refusal
+abbrev pub IsSame : Result Inputs ReadRefusal → Result Inputs ReadRefusal → Type 0
+IsSame (Ok a) (Ok b) = a.items ≡ b.items
+IsSame (Ok a) (Err s) = ⊥
+IsSame (Err r) (Ok b) = ⊥
+IsSame (Err r) (Err s) = r ≡ s

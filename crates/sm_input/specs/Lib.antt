@@ -1,0 +1,6 @@
+pub mod Grammars
+pub mod Firsts
+pub mod Complaints
+pub mod Inputs
+pub mod Reading
+pub mod Answers

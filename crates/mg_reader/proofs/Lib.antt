@@ -2,6 +2,7 @@ mod Systems
 mod Steps
 mod Keys
 mod Numbering
+mod Keywords
 mod Cutting
 mod Spelled
 mod Finish

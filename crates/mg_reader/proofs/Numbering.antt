@@ -47,7 +47,7 @@ pub uncut : (bytes : List ℕ) (r : ReadRefusal) → IsRefused bytes r → (ts :
 uncut bytes r h ts a = subst IsFound (same_answer bytes (Ok ts) (Err r) a h) tt
 
 -- a text is there or is new
-settled : (text : List ℕ) (old new : List (List ℕ)) → (IsAmong old text → new ≡ old) → ((IsAmong old text → ⊥) → new ≡ old ++ text ∷ []) → IsNamed text old new
+pub settled : (text : List ℕ) (old new : List (List ℕ)) → (IsAmong old text → new ≡ old) → ((IsAmong old text → ⊥) → new ≡ old ++ text ∷ []) → IsNamed text old new
 settled text old new known fresh = by (named_or_absent old text)
   where
     by : ((n : ℕ) × Names old n text) ⊎ (IsAmong old text → ⊥) → IsNamed text old new

@@ -4,6 +4,7 @@ pub mod Values
 pub mod Complaints
 pub mod Spelling
 pub mod Lexemes
+pub mod Keywords
 pub mod Answers
 pub mod Tables
 pub mod Reading

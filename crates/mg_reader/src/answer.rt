@@ -4,16 +4,17 @@ ghost use Rattle.gr_base.specs.Lists.{Each};
 ghost use Rattle.gr_grammar.specs.Depths.{shallow_len};
 ghost use Rattle.gr_grammar.specs.Readings.{IsReading};
 ghost use Rattle.gr_reader.specs.Lexemes.{HasText, lexeme_of};
-ghost use Rattle.gr_symbols.specs.Numbers.{Grows};
+ghost use Rattle.gr_symbols.specs.Numbers.{Grows, Names};
 ghost use Rattle.gr_tokens.specs.Answers.{AreTokens};
 ghost use Rattle.gr_tokens.specs.Spans.{slice_of};
 ghost use Rattle.gr_tokens.specs.Tokens.{Writes};
 ghost use Rattle.mg_reader.specs.Answers.{IsMetagrammar, IsRefusal, place_of, reading_of};
 ghost use Rattle.mg_reader.specs.Grammar.{system, metagrammar_text};
-ghost use Rattle.mg_reader.specs.Kinds.{turn};
+ghost use Rattle.mg_reader.specs.Keywords.{AreKeywords};
+ghost use Rattle.mg_reader.specs.Kinds.{turn, word_kind};
 ghost use Rattle.mg_reader.specs.Reading.{accepted};
 ghost use Rattle.mg_reader.specs.Lexemes.{EachIs, IsLexeme, kind_of, HasName};
-ghost use Rattle.mg_reader.specs.Tables.{AreNumbered, IsBehind, IsTable};
+ghost use Rattle.mg_reader.specs.Tables.{AreNumbered, IsBehind, IsNamed, IsTable};
 
 use crate::cursor::{Cursor, Stop};
 use crate::lexeme::{Kind, Lexeme};
@@ -44,36 +45,80 @@ fn kind_with(cut: Cut, text: &str) -> Kind
     }
 }
 
-/// The name of a token with this text, which may be new to the table.
-fn name_with(cut: Cut, text: &str, symbols: &mut Symbols) -> Result<Sym, Memory>
+/// The name of a word of this kind, which may be new to the table. The table is asked for that of a
+/// word of the grammar just once, and then it stands in the list of those, at the number of its kind.
+fn name_of_word(
+    kind: Kind,
+    text: &str,
+    symbols: &mut Symbols,
+    keywords: &mut [Option<Sym>; 256],
+) -> Result<Sym, Memory>
+    requires kind { kind ≡ word_kind text.now }
+    requires keywords { AreKeywords symbols.now keywords.now }
+    ensures named { IfOk result (λ name. Names symbols.new name.0 text.now) }
+    ensures numbered { OnOk result (IsNamed text.now symbols.old symbols.new) }
+    ensures grows { Grows symbols.old symbols.new }
+    ensures few { length symbols.new ≤ length symbols.old + 1 }
+    ensures keywords { OnOk result (AreKeywords symbols.new keywords.new) }
+{
+    if let Kind::Word = kind {
+        return symbols.intern(text);
+    }
+    let number = usize::from(kind.number());
+    if let Some(name) = keywords[number] {
+        return Ok(name);
+    }
+    let name = symbols.intern(text)?;
+    keywords[number] = Some(name);
+    Ok(name)
+}
+
+/// The name of a token of this kind with this text, which may be new to the table.
+fn name_with(
+    cut: Cut,
+    kind: Kind,
+    text: &str,
+    symbols: &mut Symbols,
+    keywords: &mut [Option<Sym>; 256],
+) -> Result<Sym, Memory>
+    requires kind { kind ≡ kind_of cut text.now }
+    requires keywords { AreKeywords symbols.now keywords.now }
     ensures named { IfOk result (λ name. HasName symbols.new cut text.now name) }
     ensures numbered { OnOk result (IsBehind cut text.now symbols.old symbols.new) }
     ensures grows { Grows symbols.old symbols.new }
     ensures few { length symbols.new ≤ length symbols.old + 1 }
+    ensures keywords { OnOk result (AreKeywords symbols.new keywords.new) }
 {
     match cut {
         Cut::Punct => Ok(EMPTY),
-        Cut::Word => symbols.intern(text),
+        Cut::Word => name_of_word(kind, text, symbols, keywords),
         Cut::Str => symbols.intern(text),
         Cut::Var => symbols.intern(text),
     }
 }
 
 /// The lexeme of a token.
-fn lexeme(bytes: &[u8], token: &Token, symbols: &mut Symbols) -> Result<Lexeme, Memory>
+fn lexeme(
+    bytes: &[u8],
+    token: &Token,
+    symbols: &mut Symbols,
+    keywords: &mut [Option<Sym>; 256],
+) -> Result<Lexeme, Memory>
     requires text { HasText bytes.now token.now }
     requires written { Writes token.now.kind (lexeme_of bytes.now token.now).text (slice_of bytes.now token.now) }
+    requires keywords { AreKeywords symbols.now keywords.now }
     ensures is { IfOk result (λ l. IsLexeme bytes.now symbols.new token.now l) }
     ensures numbered { OnOk result (AreNumbered bytes.now symbols.old (token.now ∷ []) symbols.new) }
     ensures grows { Grows symbols.old symbols.new }
     ensures few { length symbols.new ≤ length symbols.old + 1 }
+    ensures keywords { OnOk result (AreKeywords symbols.new keywords.new) }
 {
-    let Ok(text) = str::from_utf8(text_of(bytes, token)) else {
-        unreachable!();
-    };
-    let name = name_with(token.kind, text, symbols)?;
+    // The text of a token is UTF-8, which its bytes needn't be looked through for.
+    let text = unsafe { str::from_utf8_unchecked(text_of(bytes, token)) };
+    let kind = kind_with(token.kind, text);
+    let name = name_with(token.kind, kind, text, symbols, keywords)?;
     Ok(Lexeme {
-        kind: kind_with(token.kind, text),
+        kind,
         name,
         place: token.place,
     })
@@ -94,9 +139,10 @@ fn lexemes(
     ensures few { length symbols.new ≤ length symbols.old + length tokens.now }
 {
     let mut found = Vec::with_capacity(alloc, tokens.len())?;
+    let mut keywords = [None; 256];
     let mut rest = tokens;
     'cut: while let Some((token, more)) = rest.split_first() {
-        let next = lexeme(bytes, token, symbols)?;
+        let next = lexeme(bytes, token, symbols, &mut keywords)?;
         let _pushed = found.push(next)?;
         rest = more;
     }
@@ -202,6 +248,7 @@ pub fn read_metagrammar(
 {
     let cut = tokens(alloc, bytes)?;
     let found = lexemes(alloc, bytes, cut.as_slice(), symbols)?;
+    drop(cut);
     let read = reading(alloc, found.as_slice())?;
     match read {
         Ok(whole) => accepted(whole),

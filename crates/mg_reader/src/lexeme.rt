@@ -256,15 +256,15 @@ impl Kind {
     fn of_three_letters(text: &str) -> Kind
         ensures { result ≡ kind_in (of_width 3 words) text.now }
     {
-        match text {
-            "use" => Kind::Use,
-            "lex" => Kind::Lex,
-            "syn" => Kind::Syn,
-            "sem" => Kind::Sem,
-            "red" => Kind::Red,
-            "top" => Kind::Top,
-            "bot" => Kind::Bot,
-            "cat" => Kind::Cat,
+        match text.as_bytes() {
+            b"use" => Kind::Use,
+            b"lex" => Kind::Lex,
+            b"syn" => Kind::Syn,
+            b"sem" => Kind::Sem,
+            b"red" => Kind::Red,
+            b"top" => Kind::Top,
+            b"bot" => Kind::Bot,
+            b"cat" => Kind::Cat,
             _ => Kind::Word,
         }
     }
@@ -273,14 +273,14 @@ impl Kind {
     fn of_four_letters(text: &str) -> Kind
         ensures { result ≡ kind_in (of_width 4 words) text.now }
     {
-        match text {
-            "node" => Kind::Node,
-            "type" => Kind::Domain,
-            "foot" => Kind::Foot,
-            "nadj" => Kind::Nadj,
-            "with" => Kind::With,
-            "dims" => Kind::Dims,
-            "mark" => Kind::Mark,
+        match text.as_bytes() {
+            b"node" => Kind::Node,
+            b"type" => Kind::Domain,
+            b"foot" => Kind::Foot,
+            b"nadj" => Kind::Nadj,
+            b"with" => Kind::With,
+            b"dims" => Kind::Dims,
+            b"mark" => Kind::Mark,
             _ => Kind::Word,
         }
     }
@@ -289,14 +289,14 @@ impl Kind {
     fn of_five_letters(text: &str) -> Kind
         ensures { result ≡ kind_in (of_width 5 words) text.now }
     {
-        match text {
-            "class" => Kind::Class,
-            "value" => Kind::Value,
-            "subst" => Kind::Subst,
-            "iface" => Kind::Iface,
-            "black" => Kind::Black,
-            "white" => Kind::White,
-            "color" => Kind::Color,
+        match text.as_bytes() {
+            b"class" => Kind::Class,
+            b"value" => Kind::Value,
+            b"subst" => Kind::Subst,
+            b"iface" => Kind::Iface,
+            b"black" => Kind::Black,
+            b"white" => Kind::White,
+            b"color" => Kind::Color,
             _ => Kind::Word,
         }
     }
@@ -305,10 +305,10 @@ impl Kind {
     fn of_six_letters(text: &str) -> Kind
         ensures { result ≡ kind_in (of_width 6 words) text.now }
     {
-        match text {
-            "import" => Kind::Import,
-            "export" => Kind::Export,
-            "anchor" => Kind::Anchor,
+        match text.as_bytes() {
+            b"import" => Kind::Import,
+            b"export" => Kind::Export,
+            b"anchor" => Kind::Anchor,
             _ => Kind::Word,
         }
     }
@@ -317,9 +317,9 @@ impl Kind {
     fn of_seven_letters(text: &str) -> Kind
         ensures { result ≡ kind_in (of_width 7 words) text.now }
     {
-        match text {
-            "declare" => Kind::Declare,
-            "feature" => Kind::Feature,
+        match text.as_bytes() {
+            b"declare" => Kind::Declare,
+            b"feature" => Kind::Feature,
             _ => Kind::Word,
         }
     }
@@ -328,9 +328,9 @@ impl Kind {
     fn of_eight_letters(text: &str) -> Kind
         ensures { result ≡ kind_in (of_width 8 words) text.now }
     {
-        match text {
-            "property" => Kind::Property,
-            "coanchor" => Kind::Coanchor,
+        match text.as_bytes() {
+            b"property" => Kind::Property,
+            b"coanchor" => Kind::Coanchor,
             _ => Kind::Word,
         }
     }

@@ -6,3 +6,6 @@ pub mod Bags
 pub mod Noting
 pub mod NameLemmas
 pub mod Stops
+pub mod OneAnswer
+pub mod Texts
+pub mod NameTexts

@@ -60,15 +60,15 @@ unfolding plain plain_part
 plain_string zero h = refl
 plain_string (suc n) h = and_both _ _ (string_is_plain n) refl
 
-parts_plain : (n : ℕ) → plain_part n ≡ true → plain (parts n) ≡ true
+pub parts_plain : (n : ℕ) → plain_part n ≡ true → plain (parts n) ≡ true
 unfolding plain_part
 parts_plain n = pick_both IsPlainIf word_rest string_rest node others (λ m. true) (λ m. true) (λ m. false) (λ m. false) plain_word plain_string (λ m h. absurd (true≢false (sym h))) (λ m h. absurd (true≢false (sym h))) n
 
-not_property : (b : Bool) (x y : List (List ℕ)) → b ≡ false → y ≡ [] → (if b then x else y) ≡ []
+pub not_property : (b : Bool) (x y : List (List ℕ)) → b ≡ false → y ≡ [] → (if b then x else y) ≡ []
 not_property true x y e h = absurd (true≢false e)
 not_property false x y e h = h
 
-no_property_there : (n : ℕ) (v : Bool) → (n == PROPERTY) ≡ v → plain_part n ≡ true → v ≡ false
+pub no_property_there : (n : ℕ) (v : Bool) → (n == PROPERTY) ≡ v → plain_part n ≡ true → v ≡ false
 unfolding plain_part
 no_property_there n true e h = absurd (true≢false (sym h ∙ ap plain_part (eqb-true n PROPERTY e)))
 no_property_there n false e h = refl
@@ -145,7 +145,7 @@ property_reads rest (Err v) r n = property_read r n
 pub lines_read : {ts : List ℕ} {e : End ℕ} {a b : Option ℕ} → Read lines ts e a b → Read (part LINES) ts e a b
 lines_read x = record { run = run_part {n = LINES} x.run; notes = x.notes }
 
-not_node : (n : ℕ) (v : Bool) → (node_part n == PROPERTY) ≡ v → v ≡ false
+pub not_node : (n : ℕ) (v : Bool) → (node_part n == PROPERTY) ≡ v → v ≡ false
 not_node zero v e = sym e
 not_node (suc zero) v e = sym e
 not_node (suc (suc n)) true e = let h = eqb-true (node_part (suc (suc n))) PROPERTY e in absurd (omega arith)
@@ -236,7 +236,7 @@ pub token_read : {c : Class} {ts : List ℕ} {e : End ℕ} → Runs system (tok 
 unfolding plain plain_part
 token_read r a = plain_read refl r a
 
-plain_keyword : (bs : List ℕ) → plain (keyword bs) ≡ true
+pub plain_keyword : (bs : List ℕ) → plain (keyword bs) ≡ true
 unfolding plain plain_part
 plain_keyword [] = refl
 plain_keyword (b ∷ bs) = plain_keyword bs

@@ -33,11 +33,13 @@
 //!
 //! - [`check_syntax`] says that the bytes are a text of the grammar in which no property breaks the
 //!   rule, or the one place where a reading from the front stops.
+//! - [`laws::one_answer`]: just one such answer is right for each text of bytes.
 #![tactic(auto)]
 
 mod answer;
 mod breaks;
 mod class;
+pub mod laws;
 mod reader;
 mod scanner;
 #[cfg(test)]

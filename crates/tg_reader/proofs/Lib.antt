@@ -1,0 +1,17 @@
+pub mod Runs
+pub mod Steps
+pub mod Values
+pub mod PairLemmas
+pub mod Rows
+pub mod Enclosed
+pub mod LiteralTexts
+pub mod NodeTexts
+pub mod Forests
+pub mod TreeTexts
+pub mod Held
+pub mod Moved
+pub mod Closing
+pub mod WalkLengths
+pub mod Tables
+pub mod Readable
+pub mod Answering

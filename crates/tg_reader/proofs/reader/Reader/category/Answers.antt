@@ -1,0 +1,14 @@
+use Rattle.gr_symbols.specs.Numbers.{first_texts}
+use Rattle.gr_symbols.proofs.NumberLemmas.{Grows-trans}
+use Rattle.tg_reader.specs.Reading.{IsKnownPair}
+use Rattle.tg_reader.proofs.NodeTexts.{known_category}
+use Rattle.tg_reader.proofs.PairLemmas.{put_each}
+use Rattle.tg_reader.proofs.reader.Reader.category.Goals as goal
+
+pub returns-clause-known : goal.returns-clause-known
+returns-clause-known c = λ first later grows. record {
+  listed = c.add.ensures.listed;
+  pairs = put_each c.in_ok-_added._added _ _ (record { 0 = 0 }) c.in_ok-category.category c.in_ok-_added.ensures.absent c.in_ok-_added.ensures.added c.in_ok-_added.ensures.there c.in_ok-_added.ensures.same (IsKnownPair later)
+      (known_category later c.in_ok-category.category (Grows-trans first_texts _ later first (Grows-trans _ _ later c.term.ensures.passes.grows grows)) (c.in_ok-category.ensures.known later grows))
+      (rw c.new-own.ensures tt);
+}

@@ -1,0 +1,76 @@
+//! Reads the canonical text of one tree.
+//!
+//! # Model
+//!
+//! `specs/Writable` says which names and trees a text can say (`IsWritableTree`), and which texts are
+//! canonical texts of trees (`IsTreeText`): those of any tree of at most 24 nodes that can be written,
+//! by any table of names.
+//!
+//! # Contract for the crates above
+//!
+//! [`read_tree`] gives a tree whose canonical text the text is, or says that it is that of no tree.
+#![tactic(auto)]
+
+mod bags;
+mod literals;
+mod nodes;
+mod reader;
+mod rules;
+mod terms;
+mod trees;
+
+ghost use Rattle.std.specs.Prelude.{◌≡◌, ◌+◌, ◌≤◌, length, IfOk, IfSome, IfNone};
+ghost use Rattle.gr_base.specs.Lists.{NoneTwice};
+ghost use Rattle.gr_symbols.specs.Numbers.{Grows, first_texts};
+ghost use Rattle.td_canon.specs.CanonicalTexts.{HasText};
+ghost use Rattle.tg_reader.specs.Writable.{IsTreeText, IsWritableTree};
+
+use crate::reader::{Reader, Stop};
+use crate::rules::all_obey;
+pub use gr_base::Memory;
+use gr_symbols::Symbols;
+use std::alloc::Global;
+use td_canon::canonical_text;
+use td_tree::Tree;
+
+/// No text stands twice in a table.
+fn tells_texts_apart(symbols: &Symbols)
+    ensures { NoneTwice symbols.now }
+{
+    let _count = symbols.len();
+}
+
+/// The tree whose canonical text this is, or `None` exactly where it is the canonical text of no tree
+/// that can be written. Names are numbers of the table, which only grows, also where there is no
+/// tree; variables have the numbers of the text.
+pub fn read_tree(alloc: Global, text: &str, symbols: &mut Symbols) -> Result<Option<Tree>, Memory>
+    requires few { length text.now ≤ 1048576 }
+    requires first { Grows first_texts symbols.old }
+    ensures tree { IfOk result (λ found. IfSome found (λ t. HasText symbols.new t text.now)) }
+    ensures writable { IfOk result (λ found. IfSome found (λ t. IsWritableTree symbols.new t)) }
+    ensures none { IfOk result (λ found. IfNone found (IsTreeText text.now → ⊥)) }
+    ensures grows { Grows symbols.old symbols.new }
+    ensures few_more { length symbols.new ≤ length symbols.old + length text.now }
+{
+    let mut reader = Reader {
+        rest: text.as_bytes(),
+    };
+    let tree = match reader.tree(alloc, symbols) {
+        Ok(tree) => tree,
+        Err(Stop::NoTree) => return Ok(None),
+        Err(Stop::Memory) => return Err(Memory),
+    };
+    tells_texts_apart(symbols);
+    if !all_obey(tree.nodes.as_slice(), symbols) {
+        return Ok(None);
+    }
+    let written = canonical_text(alloc, &tree, symbols)?;
+    if written.as_str() == text {
+        Ok(Some(tree))
+    } else {
+        Ok(None)
+    }
+}
+
+#[cfg(test)]
+mod tests;

@@ -1,1 +1,19 @@
 mod LineLemmas
+pub mod FormTexts
+pub mod FileTexts
+pub mod SizeLemmas
+pub mod WritableForms
+pub mod WrittenTexts
+pub mod TreeBytes
+pub mod FrontLemmas
+pub mod GrownTrees
+pub mod NextTree
+pub mod Known
+pub mod Leading
+pub mod Stopping
+pub mod TreeRows
+pub mod ClassRows
+pub mod TextRows
+pub mod OneLine
+pub mod OneText
+pub mod OneAnswer

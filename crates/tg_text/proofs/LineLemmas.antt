@@ -1,5 +1,5 @@
 -- Lines of trees, one more at a time.
-use Rattle.std.proofs.Common.{◌≡◌, ◌∙◌, refl, sym, ap, ℕ, suc, zero, ◌+◌, ◌<◌, List, [], ◌∷◌, ◌++◌, take, length, map, Some, slice_get, get_or, arith, ◌≤◌}
+use Rattle.std.proofs.Common.{◌≡◌, ◌∙◌, sym, ap, ℕ, suc, zero, ◌+◌, ◌<◌, List, [], ◌∷◌, ◌++◌, take, length, map, Some, slice_get, get_or, arith, ◌≤◌}
 use Rattle.std.proofs.lemmas.List.{take_all, append-nil, append_assoc}
 use Rattle.std.proofs.lemmas.Option.{none-some, same_Some}
 use Rattle.gr_base.specs.Lists.{gathered}

@@ -1,4 +1,4 @@
-use Rattle.std.proofs.Common.{rules, arith, ◌≡◌, ◌∙◌, sym, ap, ℕ, List, ◌+◌, ◌++◌, ◌≤◌, take, length, map, string_bytes}
+use Rattle.std.proofs.Common.{arith, ◌≡◌, ◌∙◌, sym, ap, ◌+◌, ◌++◌, take, length, string_bytes}
 use Rattle.std.proofs.lemmas.List.{append_assoc, length-map}
 use Rattle.td_canon.specs.TreeSets.{Entry, texts_of}
 use Rattle.tg_text.specs.GrammarText.{tree_line, tree_lines}

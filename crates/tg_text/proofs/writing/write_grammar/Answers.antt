@@ -1,4 +1,4 @@
-use Rattle.std.proofs.Common.{rules, arith, ◌≡◌, ◌∙◌, sym, ap, ◌<◌, ◌≤◌, take, map, length, ◌++◌, ◌∷◌, [], codes, string_bytes}
+use Rattle.std.proofs.Common.{arith, ◌∙◌, sym, ap, take, map, ◌++◌, codes}
 use Rattle.std.proofs.lemmas.List.{append_assoc}
 use Rattle.gr_base.specs.Lists.{gathered}
 use Rattle.tg_text.specs.GrammarText.{class_text, class_text_of, ended}

@@ -1,0 +1,2 @@
+pub mod LexicalTrees
+pub mod Instances

@@ -1,0 +1,16 @@
+pub mod Numbers
+pub mod AnchoredNetwork
+pub mod CountLemmas
+pub mod PairLemmas
+pub mod Joining
+pub mod ShapeKeeping
+pub mod Building
+pub mod Marking
+pub mod Written
+pub mod WritingLemmas
+pub mod SharingLemmas
+pub mod CoanchorLemmas
+pub mod MarkedLemmas
+pub mod RowLemmas
+pub mod AnchoringLemmas
+pub mod CarryingLemmas

@@ -1,0 +1,9 @@
+pub mod BindingLemmas
+pub mod IndexLemmas
+pub mod TreeLemmas
+pub mod ListingLemmas
+pub mod PlaceLemmas
+pub mod LawLemmas
+pub mod SearchLemmas
+pub mod MatchLemmas
+pub mod TestLemmas

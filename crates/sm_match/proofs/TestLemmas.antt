@@ -1,0 +1,30 @@
+-- What the lexical trees of the tests are.
+use Rattle.std.specs.Prelude.{◌≡◌, ℕ, List, [], ◌∷◌, map, length, Bool, false, if◌then◌else◌, None}
+use Rattle.std.proofs.Common.{ap, sym, ◌∙◌, arith}
+use Rattle.gr_base.specs.Forests.{empty, tree}
+use Rattle.gr_terms.specs.Constants.{COANCHOR}
+use Rattle.td_tree.specs.Trees.{AreTreeNodes}
+use Rattle.td_tree.specs.declared.TreeNode.{TreeNode}
+use Rattle.tg_grammar.specs.Marks.{is_marked, lists_at, marked, node_lists}
+use Rattle.tg_grammar.specs.Shapes.{IsWellFormedTree}
+use Rattle.tg_model.specs.LexicalTrees.{IsLexical}
+use Rattle.tg_model.specs.declared.lexical.LexicalTree.{LexicalTree}
+
+-- a node alone
+pub one_node : (nodes : List TreeNode) (x : TreeNode) → nodes ≡ x ∷ [] → x.parent ≡ None → AreTreeNodes nodes
+one_node nodes x are root = record {
+  forest = tree (record { own = x.own; top = x.top; bottom = x.bot }) empty empty;
+  one = tt;
+  few = let count : length nodes ≡ 1 = ap length are in omega arith;
+  laid = are ∙ (λ i. record { parent = root i; own = x.own; top = x.top; bot = x.bot } ∷ []);
+}
+
+-- a lexical tree of it
+pub lexical_one : (l : LexicalTree) (x : TreeNode) → l.tree.nodes ≡ x ∷ [] → l.coanchors ≡ [] → is_marked COANCHOR (lists_at x) ≡ false → (l.tree.sem ≡ [] → ⊥) → IsWellFormedTree l.tree → IsLexical l
+lexical_one l x are none unmarked some well_formed = record {
+  well_formed = well_formed;
+  literal = some;
+  coanchors =
+      ap (λ (cs : List (ℕ × _)). map (λ c. c.0) cs) none
+      ∙ sym (ap (λ ns. marked COANCHOR (node_lists ns)) are ∙ ap (λ (b : Bool). if b then (0 ∷ []) else []) unmarked);
+}

@@ -1,0 +1,5 @@
+pub mod Answers
+pub mod Bindings
+pub mod Index
+pub mod Listings
+pub mod Tasks

@@ -30,7 +30,7 @@ use Rattle.tg_grammar.specs.Shapes.{IsWellFormedTree}
 use Rattle.lx_lexicon.specs.declared.entry.Entry.{Entry}
 use Rattle.tg_model.specs.LexicalTrees.{IsLexical}
 use Rattle.tg_model.specs.declared.lexical.LexicalTree.{LexicalTree}
-use Rattle.lx_anchor.specs.Anchoring.{AreLemmas, HasNamedMarks, IsAnchorRefusal, IsGiven, IsLexicalTree, Makes, co_leaves}
+use Rattle.lx_anchor.specs.Anchoring.{AreLemmas, HasLiteral, HasNamedMarks, IsAnchorRefusal, IsGiven, IsLexicalTree, Makes, co_leaves}
 use Rattle.lx_anchor.specs.Counts.{IsEntryBelow, IsLiteralBelow}
 use Rattle.lx_anchor.specs.Networks.{anchored_network, anchored_tree, entry_term, tree_term}
 use Rattle.lx_anchor.specs.TreesOver.{IsTreeOver}
@@ -140,7 +140,7 @@ module _ (class : ClassTrees) (at n : ℕ) (t : Tree) (e : Entry) (there : slice
     pub found : (l : LexicalTree) → l.entry ≡ n → l.class ≡ class.class → l.number ≡ at + 1 → l.lemma ≡ e.lemma → l.coanchors ≡ lemmas → l.tree ≡ new → length new.sem ≢ 0 → IsFound class at n e (Some l)
     unfolding makes
     found l entry named number lemma coanchors tree some =
-        the-tree (λ s. IsLexicalTree class.class at s n e l × (l.tree.sem ≢ []) × (HasNamedMarks s → IsLexical l)) (
+        the-tree (λ s. IsLexicalTree class.class at s n e l × HasLiteral l × (HasNamedMarks s → IsLexical l)) (
           record {
             makes = makes;
             entry = entry;
@@ -192,7 +192,7 @@ module _ (classes : List ClassTrees) (es : List Entry) (n m : ℕ) (e : Entry) (
   pub family-push : (l : LexicalTree) (new : List LexicalTree) → k < length class.trees → IsFound class k m e (Some l) → new ≡ ls ++ l ∷ [] → AreDone classes es n (k + 1) new
   family-push l new within found are =
       let there = there-is (λ (x : SetEntry). x.tree) class.trees k within in
-      let both = subst (λ i. IsLexicalTree class.class k there.0 i e l × (l.tree.sem ≢ []) × (HasNamedMarks there.0 → IsLexical l)) is (found there.0 there.1) in
+      let both = subst (λ i. IsLexicalTree class.class k there.0 i e l × HasLiteral l × (HasNamedMarks there.0 → IsLexical l)) is (found there.0 there.1) in
       subst (λ xs. AreDone classes es n (k + 1) xs) (sym are) (done-push classes es n e at class (family e at) k ls done there.0 there.1 l both.0 both.1 both.2)
 
   pub family-all : length class.trees ≤ k → AreDone classes es (n + 1) 0 ls

@@ -1,5 +1,5 @@
 -- Rows of lexical trees, pair by pair.
-use Rattle.std.specs.Prelude.{◌≡◌, ◌≢◌, ℕ, zero, suc, ◌+◌, ◌<◌, ◌≤◌, List, [], ◌∷◌, ◌++◌, length, map, take, Some, slice_get, ◌⊎◌, refl}
+use Rattle.std.specs.Prelude.{◌≡◌, ℕ, zero, suc, ◌+◌, ◌<◌, ◌≤◌, List, [], ◌∷◌, ◌++◌, length, map, take, Some, slice_get, ◌⊎◌, refl}
 use Rattle.std.proofs.Common.{inl, inr, ap, subst, sym, ◌∙◌, arith}
 use Rattle.std.proofs.lemmas.Bool.{cases_lt}
 use Rattle.std.proofs.lemmas.Option.{none-some, same_Some, slice_get_within}
@@ -16,7 +16,7 @@ use Rattle.tg_grammar.proofs.GrammarLemmas.{Each-slice_get}
 use Rattle.lx_lexicon.specs.declared.entry.Entry.{Entry}
 use Rattle.tg_model.specs.LexicalTrees.{IsLexical}
 use Rattle.tg_model.specs.declared.lexical.LexicalTree.{LexicalTree}
-use Rattle.lx_anchor.specs.Anchoring.{AreLexicalTrees, HasNamedMarks, HaveNamedMarks, InOrder, IsAnchorRefusal, IsBare, IsLexicalTree, IsOfPair, IsPair, IsSooner, Makes, place_of}
+use Rattle.lx_anchor.specs.Anchoring.{AreLexicalTrees, HasLiteral, HasNamedMarks, HaveNamedMarks, InOrder, IsAnchorRefusal, IsBare, IsLexicalTree, IsOfPair, IsPair, IsSooner, Makes, place_of}
 use Rattle.lx_anchor.specs.Networks.{entry_term, tree_term}
 use Rattle.lx_anchor.specs.Rows.{AreDone, IsRefused}
 use Rattle.lx_anchor.specs.declared.refusal.AnchorRefusal.{AnchorRefusal}
@@ -75,6 +75,7 @@ module _ (classes : List ClassTrees) (es : List Entry) where
     before = tt;
     all = λ m j class t e pair makes h. absurd (none m j h);
     filled = λ m j class t e pair makes h bare. none m j h;
+    literals = tt;
     lexical = λ named. tt;
   }
     where
@@ -101,6 +102,7 @@ module _ (classes : List ClassTrees) (es : List Entry) where
       before = Each-members (λ l. IsSooner (place_of l) (n + 1, 1)) ls (λ l i. later (place_of l) (Each-at (λ x. IsSooner (place_of x) (n, suc k)) ls l h.before i));
       all = λ m j class t d pair makes s. h.all m j class t d pair makes (back m j class t d pair s);
       filled = λ m j class t d pair makes s bare. h.filled m j class t d pair makes (back m j class t d pair s) bare;
+      literals = h.literals;
       lexical = h.lexical;
     }
       where
@@ -147,6 +149,7 @@ module _ (classes : List ClassTrees) (es : List Entry) where
             | inl h ↦ done.filled m j other t d pair makes h bare
             | inr h ↦ here m j other t d pair makes h
           ];
+          literals = done.literals;
           lexical = done.lexical;
         }
           where
@@ -156,7 +159,7 @@ module _ (classes : List ClassTrees) (es : List Entry) where
                 let r = pair-is k other t d moved in
                 none t r.2 (subst (λ x. Makes t x) r.1 makes)
 
-        module _ (t : Tree) (there : slice_get (trees_of class.trees) k ≡ Some t) (l : LexicalTree) (is : IsLexicalTree class.class k t n e l) (some : l.tree.sem ≢ []) (lexical : HasNamedMarks t → IsLexical l) where
+        module _ (t : Tree) (there : slice_get (trees_of class.trees) k ≡ Some t) (l : LexicalTree) (is : IsLexicalTree class.class k t n e l) (some : HasLiteral l) (lexical : HasNamedMarks t → IsLexical l) where
           this-pair : IsPair classes es n k class t e
           this-pair = record { entry = at; family = family; tree = there }
 
@@ -191,6 +194,7 @@ module _ (classes : List ClassTrees) (es : List Entry) where
               | inl low ↦ done.filled m j other s d pair makes low bare
               | inr (a, b) ↦ here m j other s d pair a b bare
             ];
+            literals = Each-append HasLiteral ls (l ∷ []) done.literals (some, tt);
             lexical = λ named. Each-append IsLexical ls (l ∷ []) (done.lexical named) (lexical (named-tree named), tt);
           }
             where

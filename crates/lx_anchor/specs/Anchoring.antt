@@ -1,5 +1,5 @@
 -- Lexical trees: which trees and entries make one, which one it is, and which list has all of them.
-use Rattle.std.specs.Prelude.{◌≡◌, ℕ, suc, ◌<◌, List, [], ◌∷◌, Option, Some, None, slice_get, ⊤, ◌⊎◌, ◌==◌, if◌then◌else◌}
+use Rattle.std.specs.Prelude.{◌≡◌, ◌≢◌, ℕ, suc, ◌<◌, List, [], ◌∷◌, Option, Some, None, slice_get, ⊤, ◌⊎◌, ◌==◌, if◌then◌else◌}
 use Rattle.std.specs.List.{AllZip}
 use Rattle.gr_base.specs.Lists.{IsAmong, Each}
 use Rattle.gr_terms.specs.Canonical.{Node}
@@ -95,6 +95,10 @@ pub record AreLexicalTrees (classes : List ClassTrees) (es : List Entry) (ls : L
   pub order : InOrder ls
   pub only : Each (IsOfPair classes es) ls
   pub all : (n k : ℕ) (class : ClassTrees) (t : Tree) (e : Entry) → IsPair classes es n k class t e → Makes t e → (l : LexicalTree) × IsAmong ls l × (place_of l ≡ (n, suc k))
+
+-- the lexical tree has a literal
+abbrev pub HasLiteral : LexicalTree → Type 0
+HasLiteral l = l.tree.sem ≢ []
 
 -- a lexical tree of the two has no literal
 abbrev pub IsBare : Tree → Entry → Type 0

@@ -1,5 +1,5 @@
 -- What is found on the way: of one tree and one entry, and of all before a pair of them.
-use Rattle.std.specs.Prelude.{◌≡◌, ◌≢◌, ℕ, suc, List, [], Option, Some, None, slice_get, ⊤}
+use Rattle.std.specs.Prelude.{◌≡◌, ℕ, suc, List, Option, Some, None, slice_get, ⊤}
 use Rattle.gr_base.specs.Lists.{IsAmong, Each}
 use Rattle.gr_terms.specs.Constants.{COANCHOR}
 use Rattle.gr_terms.specs.Networks.{Agrees}
@@ -14,7 +14,7 @@ use Rattle.tg_grammar.specs.Shapes.{IsWellFormedTree}
 use Rattle.lx_lexicon.specs.declared.entry.Entry.{Entry}
 use Rattle.tg_model.specs.LexicalTrees.{AreLexical, IsLexical}
 use Rattle.tg_model.specs.declared.lexical.LexicalTree.{LexicalTree}
-use Rattle.lx_anchor.specs.Anchoring.{HasNamedMarks, HaveNamedMarks, InOrder, IsBare, IsLexicalTree, IsOfPair, IsPair, IsSooner, Makes, co_leaves, place_of}
+use Rattle.lx_anchor.specs.Anchoring.{HasLiteral, HasNamedMarks, HaveNamedMarks, InOrder, IsBare, IsLexicalTree, IsOfPair, IsPair, IsSooner, Makes, co_leaves, place_of}
 use Rattle.lx_anchor.specs.Networks.{anchored_network, anchored_tree}
 use Rattle.lx_anchor.specs.TreesOver.{IsTreeOver}
 use Rattle.lx_anchor.specs.declared.refusal.AnchorRefusal.{AnchorRefusal}
@@ -35,7 +35,7 @@ IsAnchored t e (Some new) = IsAnchoredTree t e new
 -- the lexical tree of a tree of a class and an entry, or none where they make none
 abbrev pub IsFound : ClassTrees → ℕ → ℕ → Entry → Option LexicalTree → Type 0
 IsFound class k n e None = (t : Tree) → slice_get (trees_of class.trees) k ≡ Some t → Makes t e → ⊥
-IsFound class k n e (Some l) = (t : Tree) → slice_get (trees_of class.trees) k ≡ Some t → IsLexicalTree class.class k t n e l × (l.tree.sem ≢ []) × (HasNamedMarks t → IsLexical l)
+IsFound class k n e (Some l) = (t : Tree) → slice_get (trees_of class.trees) k ≡ Some t → IsLexicalTree class.class k t n e l × HasLiteral l × (HasNamedMarks t → IsLexical l)
 
 -- the two make a lexical tree without a literal
 pub record IsBarePair (class : ClassTrees) (k : ℕ) (e : Entry) (lemma name : Sym) (number : ℕ) : Type 0 where
@@ -62,4 +62,5 @@ pub record AreDone (classes : List ClassTrees) (es : List Entry) (n k : ℕ) (ls
   pub before : Each (λ l. IsSooner (place_of l) (n, suc k)) ls
   pub all : (m j : ℕ) (class : ClassTrees) (t : Tree) (e : Entry) → IsPair classes es m j class t e → Makes t e → IsSooner (m, j) (n, k) → (l : LexicalTree) × IsAmong ls l × (place_of l ≡ (m, suc j))
   pub filled : (m j : ℕ) (class : ClassTrees) (t : Tree) (e : Entry) → IsPair classes es m j class t e → Makes t e → IsSooner (m, j) (n, k) → IsBare t e → ⊥
+  pub literals : Each HasLiteral ls
   pub lexical : HaveNamedMarks classes → AreLexical ls

@@ -6,7 +6,7 @@ ghost use Rattle.td_canon.specs.TreeSets.{trees_of};
 ghost use Rattle.tg_grammar.specs.Grammars.{IsWellFormedClass};
 ghost use Rattle.tg_grammar.specs.Shapes.{IsWellFormedTree};
 ghost use Rattle.tg_model.specs.LexicalTrees.{AreLexical};
-ghost use Rattle.lx_anchor.specs.Anchoring.{AreLexicalTrees, HaveNamedMarks, IsAnchorRefusal};
+ghost use Rattle.lx_anchor.specs.Anchoring.{AreLexicalTrees, HasLiteral, HaveNamedMarks, IsAnchorRefusal};
 ghost use Rattle.lx_anchor.specs.Counts.{AreClassesBelow, IsClassBelow};
 ghost use Rattle.lx_anchor.specs.Rows.{AreDone, IsAnchored, IsFamily, IsFound, IsRefused};
 ghost use Rattle.lx_anchor.specs.Sharing.{CanServe, HasRoom};
@@ -216,6 +216,7 @@ pub fn anchor_all(
     lexicon: &Lexicon,
 ) -> Result<LexicalTrees, AnchorRefusal>
     ensures trees { IfOk result (AreLexicalTrees grammar.now lexicon.now) }
+    ensures literals { IfOk result (Each HasLiteral) }
     ensures lexical { HaveNamedMarks grammar.now → IfOk result AreLexical }
     ensures refused { IfErr result (IsAnchorRefusal grammar.now lexicon.now) }
 {

@@ -78,9 +78,9 @@ pub StandsAt-has : {X : Type 0} (pairs : List (Sym × X)) (attr : Sym) (place : 
 StandsAt-has pairs attr place stands = (stands.0, IsAmong-slice_get pairs place (attr, stands.0) stands.1)
 
 -- so the value read there is a value of the attribute
-pub StandsAt-read : {X : Type 0} (pairs : List (Sym × X)) (attr : Sym) (place : ℕ) (pair : Sym × X) → StandsAt pairs attr place → pair ≡ get_or pairs place pair → IsAmong pairs (attr, pair.1)
-StandsAt-read pairs attr place pair stands read =
-    let same : pair ≡ (attr, stands.0) = read ∙ get_or_from_slice_get pairs place (attr, stands.0) pair stands.1 in
+pub StandsAt-read : {X : Type 0} (pairs : List (Sym × X)) (attr : Sym) (place : ℕ) (other : Sym × X) → StandsAt pairs attr place → IsAmong pairs (attr, (get_or pairs place other).1)
+StandsAt-read pairs attr place other stands =
+    let same : get_or pairs place other ≡ (attr, stands.0) = get_or_from_slice_get pairs place (attr, stands.0) other stands.1 in
     subst (λ v. IsAmong pairs (attr, v)) (sym (ap (λ p. p.1) same)) (IsAmong-slice_get pairs place (attr, stands.0) stands.1)
 
 -- a bag's first pairs are a bag, and so is a bag without a pair that was put in

@@ -5,13 +5,15 @@ ghost use Rattle.gr_base.specs.Lists.{IsAmong};
 ghost use Rattle.gr_terms.specs.Bags.{IsListed, HasAttribute, LacksAttribute, Puts, StandsAt, FitsAt};
 
 use crate::{Memory, Sym, Term};
+use smallvec::SmallVec;
 use std::alloc::Global;
 use std::marker::Model;
 
-/// Attributes with their values, seen as a list of pairs by rising attribute, each once.
+/// Attributes with their values, seen as a list of pairs by rising attribute, each once. Up to two
+/// pairs, as most bags of trees have, take no memory but the bag's own.
 #[derive(Drop)]
 pub struct Bag {
-    pairs: Vec<(Sym, Term)>,
+    pairs: SmallVec<(Sym, Term), 2>,
 }
 
 impl Model for Bag {
@@ -50,7 +52,7 @@ impl Bag {
         ensures { result ≡ [] }
     {
         Bag {
-            pairs: Vec::new(alloc),
+            pairs: SmallVec::new(alloc),
         }
     }
 

@@ -39,8 +39,8 @@ use gr_base::Items;
 pub use gr_base::Memory;
 pub use network::Network;
 
-/// The number of a name.
-#[derive(Clone, Copy, Debug, PartialEq, Eq)]
+/// The number of a name. The default is the lowest one.
+#[derive(Clone, Copy, Debug, Default, PartialEq, Eq)]
 pub struct Sym(pub u32);
 
 /// A name or a variable.
@@ -50,6 +50,13 @@ pub enum Term {
     Const(Sym),
     /// A variable, by its number.
     Var(u32),
+}
+
+impl Default for Term {
+    /// The variable with the lowest number.
+    fn default() -> Term {
+        Term::Var(0)
+    }
 }
 
 /// The number of a slot.

@@ -191,7 +191,8 @@ fn joint_literals(
     requires entry_made { Each (IsLiteralBelow 4294967295) (counted_literals first entry.now) }
     ensures { IfOk result (λ written. AllZip (StandsForLiteral (network_of store.now.accepted)) (literals_of (tree.now ++ counted_literals first entry.now)) written) }
 {
-    let mut written = Items::new(alloc);
+    let room = tree.len().saturating_add(entry.len());
+    let mut written = Items::from_vec(Vec::with_capacity(alloc, room)?);
     put_literals(alloc, &mut written, store, 0, tree)?;
     put_literals(alloc, &mut written, store, first, entry)?;
     Ok(written)

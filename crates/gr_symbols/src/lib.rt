@@ -6,6 +6,7 @@
 //! numbers are those of equal texts.
 #![tactic(auto)]
 
+ghost use Rattle.std.specs.String.{string_bytes};
 ghost use Rattle.std.specs.Prelude.{◌≡◌, ◌+◌, ◌<◌, ◌≤◌, [], ◌∷◌, ◌++◌, length, map, OnOk, OnErr, IfOk, MatchOption};
 ghost use Rattle.gr_base.specs.Lists.{IsAmong, NoneTwice};
 ghost use Rattle.gr_symbols.specs.Numbers.{Names, Grows, first_texts};
@@ -26,7 +27,21 @@ const FIRST_TEXTS: [&str; 10] = [
 /// The most texts of a table.
 const TEXT_LIMIT: usize = 4_294_967_295;
 
+/// The set of these texts, in their order.
+fn set_of(alloc: Global, texts: &[&str]) -> Result<IndexSet<String>, Memory>
+    requires { NoneTwice (map (λ t. t.now) texts.now) }
+    ensures { IfOk result (λ set. map string_bytes set.keys ≡ map (λ t. t.now) texts.now) }
+{
+    let mut set = IndexSet::new(alloc);
+    for text in texts {
+        let owned = (*text).to_owned(alloc)?;
+        set.insert(owned)?;
+    }
+    Ok(set)
+}
+
 /// The table of names, which contracts see as the list of its texts, in the order of their numbers.
+/// It begins with the ten first texts.
 #[derive(Drop)]
 pub struct Symbols {
     texts: IndexSet<String>,
@@ -36,12 +51,13 @@ impl Model for Symbols {
     ghost use Rattle.std.specs.Prelude.{◌≤◌, ℕ, List, map, length};
     ghost use Rattle.std.specs.String.{string_bytes};
     ghost use Rattle.gr_base.specs.Lists.{NoneTwice};
+    ghost use Rattle.gr_symbols.specs.Numbers.{Grows, first_texts};
 
     ghost Value = { List (List ℕ) };
 
     ghost view = { λ s. map string_bytes s.texts.keys };
 
-    ghost invariant = { λ s. NoneTwice (map string_bytes s.texts.keys) × (length s.texts.keys ≤ 4294967295) };
+    ghost invariant = { λ s. NoneTwice (map string_bytes s.texts.keys) × Grows first_texts (map string_bytes s.texts.keys) × (length s.texts.keys ≤ 4294967295) };
 }
 
 impl Symbols {
@@ -49,21 +65,9 @@ impl Symbols {
     pub fn new(alloc: Global) -> Result<Symbols, Memory>
         ensures { IfOk result (λ s. s ≡ first_texts) }
     {
-        Symbols::from_texts(alloc, &FIRST_TEXTS)
-    }
-
-    // The table of these texts, in their order.
-    fn from_texts(alloc: Global, texts: &[&str]) -> Result<Symbols, Memory>
-        requires { NoneTwice (map (λ t. t.now) texts.now) }
-        ensures { IfOk result (λ s. s ≡ map (λ t. t.now) texts.now) }
-    {
-        let mut symbols = Symbols {
-            texts: IndexSet::new(alloc),
-        };
-        for text in texts {
-            symbols.intern(text)?;
-        }
-        Ok(symbols)
+        Ok(Symbols {
+            texts: set_of(alloc, &FIRST_TEXTS)?,
+        })
     }
 
     /// The number of a text, which gets the next number where it is new. Numbers that were given
@@ -111,10 +115,11 @@ impl Symbols {
         self.texts[sym.0 as usize].as_str()
     }
 
-    /// The number of texts. No text stands twice.
+    /// The number of texts. No text stands twice, and the ten first ones stand first.
     pub fn len(&self) -> usize
         ensures len { result ≡ length self.now }
         ensures distinct { NoneTwice self.now }
+        ensures first { Grows first_texts self.now }
     {
         self.texts.len()
     }

@@ -4,7 +4,8 @@ use Rattle.std.specs.String.{string_bytes}
 use Rattle.std.proofs.lemmas.List.{length-map, length_push}
 use Rattle.gr_base.specs.Lists.{NoneTwice}
 use Rattle.gr_base.proofs.ListLemmas.{NoneTwice-push, slice_get_push}
-use Rattle.gr_symbols.proofs.NumberLemmas.{IsAmong-Names}
+use Rattle.gr_symbols.specs.Numbers.{Grows, first_texts}
+use Rattle.gr_symbols.proofs.NumberLemmas.{Grows-trans, IsAmong-Names}
 use Rattle.gr_symbols.proofs.Lookups.{texts-insert_key}
 use Rattle.gr_symbols.proofs.Symbols.intern.Goals as goal
 
@@ -20,6 +21,9 @@ distinct_after : (c : goal.In_ok-insert) → NoneTwice (map string_bytes c.inser
 distinct_after c =
     subst NoneTwice (sym (texts_after c)) (NoneTwice-push c.args.self.now c.args.text.now (subst NoneTwice c.self.view_is c.self.invariant.0) c.in_default.ensures)
 
+begins_after : (c : goal.In_ok-insert) → Grows first_texts (map string_bytes c.insert.new.self.keys)
+begins_after c = Grows-trans first_texts c.args.self.now _ (subst (Grows first_texts) c.self.view_is c.self.invariant.1) (c.args.text.now ∷ [], texts_after c)
+
 length_after : (c : goal.In_ok-insert) → length (map string_bytes c.insert.new.self.keys) ≡ length c.args.self.now + 1
 length_after c = ap length (texts_after c) ∙ length_push c.args.self.now c.args.text.now
 
@@ -28,7 +32,7 @@ invariant_of-self-2 c =
     let number : c.len-number.result ≡ length c.args.self.now =
     c.len-number.ensures.len ∙ sym (length-map c.self.inside.texts.keys string_bytes) ∙ ap length c.self.view_is
     in
-    (distinct_after c, omega (arith, number, length_after c, length-map c.insert.new.self.keys string_bytes, c.if-number-ge-TEXT_LIMIT.false))
+    (distinct_after c, begins_after c, omega (arith, number, length_after c, length-map c.insert.new.self.keys string_bytes, c.if-number-ge-TEXT_LIMIT.false))
 
 pub returns : goal.returns
 returns c =

@@ -6,7 +6,6 @@ use Rattle.gr_grammar.specs.Depths.{shallow_len}
 use Rattle.gr_tokens.specs.declared.Token.{Token}
 use Rattle.gr_reader.specs.Lexemes.{Lexeme, lexemes}
 use Rattle.gr_reader.specs.Classes.{kind_number, is_one_of}
-use Rattle.gr_reader.specs.declared.brackets.TheConstants.{BRACKET_LIMIT}
 
 abbrev pub opening : List (List ℕ)
 opening = codes "(" ∷ codes "[" ∷ codes "{" ∷ []
@@ -25,4 +24,4 @@ turn t = turn_by ((kind_number t.kind == 3) && is_one_of opening t.text) ((kind_
 
 -- how many tokens stand before the first bracket that opens inside 200 open ones
 abbrev pub shallow_tokens : List ℕ → List Token → ℕ
-shallow_tokens bytes ts = shallow_len turn BRACKET_LIMIT 0 (lexemes bytes ts)
+shallow_tokens bytes ts = shallow_len turn 200 0 (lexemes bytes ts)

@@ -6,7 +6,6 @@ use Rattle.gr_text.specs.declared.Place.{Place}
 use Rattle.gr_tokens.specs.declared.Token.{Token}
 use Rattle.gr_tokens.specs.declared.ReadRefusal.{ReadRefusal}
 use Rattle.gr_tokens.specs.declared.ReadRefusal.TheVariants.{Syntax, Memory}
-use Rattle.gr_reader.specs.declared.brackets.TheConstants.{BRACKET_LIMIT}
 use Rattle.gr_reader.specs.declared.complaints.Complaint.{Complaint}
 use Rattle.gr_reader.specs.Lexemes.{Lexeme, lexemes}
 use Rattle.gr_reader.specs.Classes.{Class}
@@ -17,13 +16,13 @@ use Rattle.gr_reader.specs.Complaints.{all_noted, refusal_at}
 -- the tokens are a text of the grammar, in which no bracket opens inside 200 open ones
 pub record IsFile (S : System Class Lexeme) (g : Grammar Class) (bytes : List ℕ) (tokens : List Token) : Type 0 where
   pub tree : IsText S g (lexemes bytes tokens)
-  pub shallow : IsShallow turn BRACKET_LIMIT 0 (lexemes bytes tokens)
+  pub shallow : IsShallow turn 200 0 (lexemes bytes tokens)
 
 -- the place is that of the first token after which no text of the grammar goes on, or which opens a bracket too deep, or that of the end of the bytes, where the tokens end too early
 pub record BreaksOff (S : System Class Lexeme) (g : Grammar Class) (bytes : List ℕ) (tokens : List Token) (place : Place) : Type 0 where
   pub number : ℕ
   pub within : number ≤ length tokens
-  pub fault : IsShallowFault S turn BRACKET_LIMIT g (lexemes bytes tokens) (drop number (lexemes bytes tokens))
+  pub fault : IsShallowFault S turn 200 g (lexemes bytes tokens) (drop number (lexemes bytes tokens))
   pub here : place ≡ place_of_token bytes tokens number
 
 -- the refusal is that of the first of the complaints, at the place of its token

@@ -10,10 +10,8 @@ use Rattle.gr_tokens.specs.declared.ReadRefusal.TheVariants.{Syntax, NotUtf8, Du
 use Rattle.mg_syntax.specs.declared.item.Item.{Item}
 use Rattle.mg_syntax.specs.declared.item.Item.TheVariants as item
 use Rattle.mg_reader.specs.declared.lexeme.Lexeme.{Lexeme}
-use Rattle.gr_reader.specs.declared.brackets.TheConstants.{BRACKET_LIMIT}
 use Rattle.mg_reader.specs.declared.notes.Complaint.{Complaint}
 use Rattle.mg_reader.specs.declared.notes.Complaint.TheVariants as complaint
-use Rattle.mg_reader.specs.declared.notes.TheConstants.{CLASS_LIMIT}
 use Rattle.mg_reader.specs.Kinds.{turn}
 use Rattle.mg_reader.specs.Lexemes.{AreLexemes}
 use Rattle.mg_reader.specs.Grammar.{system, metagrammar_text}
@@ -33,8 +31,8 @@ pub record IsMetagrammar (bytes : List ℕ) (texts : List (List ℕ)) (m : List 
   pub lexemes : List Lexeme
   pub are : AreLexemes bytes texts lexemes
   pub spelled : Spells m lexemes
-  pub shallow : IsShallow turn BRACKET_LIMIT 0 lexemes
-  pub few : class_count m ≤ CLASS_LIMIT
+  pub shallow : IsShallow turn 200 0 lexemes
+  pub few : class_count m ≤ 4096
 
 -- the place of the next lexeme, or that of the end of the bytes
 abbrev pub place_of : List ℕ → List Lexeme → Place
@@ -50,14 +48,14 @@ pub record IsSyntaxFault (bytes : List ℕ) (texts : List (List ℕ)) (place : P
   pub lexemes : List Lexeme
   pub are : AreLexemes bytes texts lexemes
   pub rest : List Lexeme
-  pub fault : IsShallowFault system turn BRACKET_LIMIT metagrammar_text lexemes rest
+  pub fault : IsShallowFault system turn 200 metagrammar_text lexemes rest
   pub here : place ≡ place_of bytes rest
 
 -- the lexemes are a text of the grammar, and this is its first complaint
 pub record IsFirstComplaint (bytes : List ℕ) (texts : List (List ℕ)) (first : Complaint) : Type 0 where
   pub lexemes : List Lexeme
   pub are : AreLexemes bytes texts lexemes
-  pub shallow : IsShallow turn BRACKET_LIMIT 0 lexemes
+  pub shallow : IsShallow turn 200 0 lexemes
   pub tree : IsText system metagrammar_text lexemes
   pub others : List Complaint
   pub is : metagrammar_bad tree ≡ first ∷ others

@@ -151,7 +151,7 @@ fn lexemes(
 
 /// How many lexemes stand before the first bracket that opens inside as many open ones as the limit.
 fn shallow(lexemes: &[Lexeme]) -> usize
-    ensures { result ≡ shallow_len turn BRACKET_LIMIT 0 lexemes.now }
+    ensures { result ≡ shallow_len turn 200 0 lexemes.now }
 {
     let mut rest = lexemes;
     let mut level = 0;
@@ -173,7 +173,7 @@ fn reading(
     alloc: Global,
     lexemes: &[Lexeme],
 ) -> Result<Result<(Metagrammar, Option<Complaint>), usize>, Memory>
-    ensures { IfOk result (λ r. IsReading system turn BRACKET_LIMIT metagrammar_text (λ ts rest m. reading_of m) lexemes.now r) }
+    ensures { IfOk result (λ r. IsReading system turn 200 metagrammar_text (λ ts rest m. reading_of m) lexemes.now r) }
 {
     let room = shallow(lexemes);
     let (part, deep) = lexemes.split_at(room);

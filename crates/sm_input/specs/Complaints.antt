@@ -7,7 +7,6 @@ use Rattle.gr_reader.specs.declared.complaints.Complaint.{Complaint}
 use Rattle.gr_reader.specs.declared.complaints.Fault.{Fault}
 use Rattle.gr_reader.specs.declared.complaints.Fault.TheVariants.{Duplicate, Variable, InputLiterals, TooManyInputs}
 use Rattle.gr_feats.specs.Grammars.{WrittenPair}
-use Rattle.sm_input.specs.declared.input.TheConstants.{LITERAL_LIMIT, INPUT_LIMIT}
 use Rattle.sm_input.specs.Grammars.{WrittenInput, inputs_text, inputs_of}
 use Rattle.sm_input.specs.Firsts.{firsts}
 
@@ -29,8 +28,8 @@ again_left seen (p ∷ ps) = if is_one_of seen p.attr then Some p.left else agai
 -- An input is complained of at its word where it has too many different literals, and where too many inputs stand before it; its start features are at the first attribute that stands a second time. Of two complaints at one place the one that stands first here counts.
 abbrev pub input_bad : ℕ → WrittenInput → List Complaint
 input_bad number w =
-    complaint_if (nat_lt LITERAL_LIMIT (length (firsts [] w.literals))) InputLiterals w.left
-    ++ (complaint_if (number == INPUT_LIMIT) TooManyInputs w.left
+    complaint_if (nat_lt 24 (length (firsts [] w.literals))) InputLiterals w.left
+    ++ (complaint_if (number == 4096) TooManyInputs w.left
     ++ complaint_at Duplicate (again_left [] w.start))
 
 -- the complaints of inputs, where so many stand before them

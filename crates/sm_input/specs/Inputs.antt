@@ -11,7 +11,6 @@ use Rattle.gr_symbols.specs.Numbers.{Names}
 use Rattle.gr_feats.specs.Grammars.{Written, a_name, a_variable, WrittenLiteral}
 use Rattle.gr_feats.specs.Numberings.{none_met}
 use Rattle.gr_feats.specs.Readings.{IsBag}
-use Rattle.sm_input.specs.declared.input.TheConstants.{LITERAL_LIMIT}
 use Rattle.sm_input.specs.declared.input.Input.{Input}
 use Rattle.sm_input.specs.Grammars.{WrittenInput}
 use Rattle.sm_input.specs.Firsts.{firsts}
@@ -68,4 +67,4 @@ pub record IsGround (i : Input) : Type 0 where
   pub start : Each (λ p. IsConst p.1) i.start
   pub literals : Each AreConst i.literals
   pub different : NoneTwice i.literals
-  pub few : length i.literals ≤ LITERAL_LIMIT
+  pub few : length i.literals ≤ 24

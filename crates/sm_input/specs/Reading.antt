@@ -16,7 +16,6 @@ use Rattle.gr_feats.specs.Numberings.{Numbering, none_met}
 use Rattle.gr_feats.specs.Readings.{IsBag}
 use Rattle.sm_input.specs.declared.raw.RawLiteral.{RawLiteral}
 use Rattle.sm_input.specs.declared.raw.RawInput.{RawInput}
-use Rattle.sm_input.specs.declared.input.TheConstants.{LITERAL_LIMIT, INPUT_LIMIT}
 use Rattle.sm_input.specs.Grammars.{WrittenInput}
 use Rattle.sm_input.specs.Firsts.{firsts}
 use Rattle.sm_input.specs.Complaints.{complaint_if, complaint_at, again_left}
@@ -56,11 +55,11 @@ raw_literal first (Some second) args = record { handle = Some (raw_term first); 
 
 -- a literal is kept behind the others where it is none of them and they aren't too many yet
 abbrev pub Keeps : List RawLiteral → RawLiteral → List RawLiteral → Type 0
-Keeps old x new = (((LITERAL_LIMIT < length old) ⊎ IsAmong old x) × (new ≡ old)) ⊎ ((length old ≤ LITERAL_LIMIT) × ((IsAmong old x → ⊥) × (new ≡ old ++ x ∷ [])))
+Keeps old x new = (((24 < length old) ⊎ IsAmong old x) × (new ≡ old)) ⊎ ((length old ≤ 24) × ((IsAmong old x → ⊥) × (new ≡ old ++ x ∷ [])))
 
 -- of the literals that no equal one stands before, the first ones, one more than there may be
 abbrev pub AreKept : List (List ℕ) → List WrittenLiteral → List RawLiteral → Type 0
-AreKept texts ws xs = AllZip (IsRawLiteral texts) (take (suc LITERAL_LIMIT) (firsts [] ws)) xs
+AreKept texts ws xs = AllZip (IsRawLiteral texts) (take 25 (firsts [] ws)) xs
 
 -- the start features, with variables of their own
 abbrev pub IsStart : List (List ℕ) → List WrittenPair → Gathered → Type 0
@@ -75,8 +74,8 @@ pub record IsRawInput (texts : List (List ℕ)) (w : WrittenInput) (x : RawInput
 -- the complaints of an input that was read, where so many stand before it
 abbrev pub raw_bad : ℕ → RawInput → List Complaint
 raw_bad number x =
-    complaint_if (nat_lt LITERAL_LIMIT (length x.literals.items)) InputLiterals x.left
-    ++ (complaint_if (number == INPUT_LIMIT) TooManyInputs x.left
+    complaint_if (nat_lt 24 (length x.literals.items)) InputLiterals x.left
+    ++ (complaint_if (number == 4096) TooManyInputs x.left
     ++ complaint_at Duplicate x.start.again)
 
 -- a literal gets its handle: its own, or where it was left out the name by its number
@@ -124,7 +123,7 @@ pub record InputHas (P : Written → Type 0) (w : WrittenInput) : Type 0 where
 pub record IsFaultless (w : WrittenInput) : Type 0 where
   pub plain : InputHas IsPlain w
   pub once : again_left [] w.start ≡ None
-  pub few : length (firsts [] w.literals) ≤ LITERAL_LIMIT
+  pub few : length (firsts [] w.literals) ≤ 24
 
 -- the inputs that nothing is wrong with are right
 abbrev pub AreFaultless : List (List ℕ) → List WrittenInput → List Input → Type 0

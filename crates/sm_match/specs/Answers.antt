@@ -2,7 +2,6 @@
 use Rattle.std.specs.Prelude.{◌≡◌, ◌<◌, ◌≤◌, ⊤, List, length, Result, Ok, Err}
 use Rattle.gr_base.specs.Lists.{Each, NoneTwice}
 use Rattle.gr_terms.specs.declared.Literal.{Literal}
-use Rattle.tg_model.specs.declared.instance.TheConstants.{INSTANCE_LIMIT}
 use Rattle.tg_model.specs.declared.instance.Instance.{Instance}
 use Rattle.tg_model.specs.declared.instance.Selection.{Selection}
 use Rattle.tg_model.specs.declared.lexical.LexicalTree.{LexicalTree}
@@ -14,11 +13,11 @@ use Rattle.sm_match.specs.declared.refusal.SelectRefusal.TheVariants.{Over, Memo
 pub record IsSelection (trees : List LexicalTree) (input : List Literal) (s : Selection) : Type 0 where
   pub literals : s.literals ≡ input
   pub instances : AreInstances trees input s.instances
-  pub few : length s.instances ≤ INSTANCE_LIMIT
+  pub few : length s.instances ≤ 4096
 
 -- there are more than 4,096 instances: so many different ones can be listed
 abbrev pub HasTooMany : List LexicalTree → List Literal → Type 0
-HasTooMany trees input = (is : List Instance) × (INSTANCE_LIMIT < length is) × NoneTwice is × Each (IsInstance trees input) is
+HasTooMany trees input = (is : List Instance) × (4096 < length is) × NoneTwice is × Each (IsInstance trees input) is
 
 -- the right answer: all instances, or that they are too many; want of memory may stand in its place
 abbrev pub IsAnswer : List LexicalTree → List Literal → Result Selection SelectRefusal → Type 0

@@ -1,7 +1,6 @@
 -- Lists of instances in order, and what a search adds to one.
 use Rattle.std.specs.Prelude.{◌≡◌, ◌+◌, ◌<◌, ◌≤◌, ⊤, List, ◌++◌, length, Result, Ok, Err}
 use Rattle.gr_base.specs.Lists.{Each, IsAmong}
-use Rattle.tg_model.specs.declared.instance.TheConstants.{INSTANCE_LIMIT}
 use Rattle.tg_model.specs.declared.instance.Instance.{Instance}
 use Rattle.tg_model.specs.Instances.{InOrder}
 use Rattle.sm_match.specs.declared.refusal.SelectRefusal.{SelectRefusal}
@@ -18,12 +17,12 @@ pub record Adds (P : Instance → Type 0) (old new : List Instance) : Type 0 whe
   pub more : List Instance
   pub is : new ≡ old ++ more
   pub lists : Lists P more
-  pub few : length old ≤ INSTANCE_LIMIT → length new ≤ INSTANCE_LIMIT
+  pub few : length old ≤ 4096 → length new ≤ 4096
 
 -- with some of these instances behind the old list there are too many
 pub record Overflows (P : Instance → Type 0) (old : List Instance) : Type 0 where
   pub more : List Instance
-  pub many : INSTANCE_LIMIT < length old + length more
+  pub many : 4096 < length old + length more
   pub order : InOrder more
   pub only : Each P more
 

@@ -3,10 +3,8 @@ use Rattle.std.proofs.Common.{◌≡◌, ◌∙◌, refl, sym, ap, subst, ℕ, L
 use Rattle.std.specs.List.{AllZip}
 use Rattle.gr_base.specs.Lists.{gathered}
 use Rattle.gr_text.specs.Words.{Spells}
-use Rattle.gr_symbols.specs.Numbers.{Names}
 use Rattle.gr_symbols.proofs.NumberLemmas.{one_text}
 use Rattle.gr_terms.specs.declared.Sym.{Sym}
-use Rattle.mg_syntax.specs.declared.body.Ref.{Ref}
 use Rattle.rl_refusals.specs.Lines.{Part, number, word, a_name, a_variable, parts_of, IsVariableText, IsPartText, IsRefusalLine}
 use Rattle.rl_refusals.specs.declared.refusal.Refusal.{Refusal}
 

@@ -1,17 +1,16 @@
 -- The grammar of grammar text is a system in which the next byte decides.
-use Rattle.std.proofs.Common.{◌≡◌, ℕ, zero, suc, List, [], ◌∷◌, ◌++◌, Bool, true, false, refl, sym, ◌∙◌, inl, inr, subst, ap}
+use Rattle.std.proofs.Common.{◌≡◌, ℕ, zero, suc, List, [], ◌∷◌, ◌++◌, Bool, true, false, refl, sym, inl, inr, subst, ap}
 use Rattle.std.specs.Prelude.{◌==◌, ◌||◌, ◌&&◌, not, codes}
 use Rattle.std.proofs.lemmas.Bool.{true≢false, eqb-true, eq-eqb}
-use Rattle.gr_text.specs.Words.{is_word_byte}
-use Rattle.gr_grammar.specs.Grammars.{Grammar, tok, nil, seq, alt, star, part, Info, Matches, a_token, no_token, both, the_left, the_right, no_more, one_more, by_part, IsSystem, is_clear, nullable, first, goes, is_of}
+use Rattle.gr_grammar.specs.Grammars.{Grammar, Info, Matches, a_token, no_token, both, the_left, the_right, by_part, IsSystem, is_clear, nullable, first, goes, is_of}
 use Rattle.gr_grammar.proofs.Fronts.{not_true, or_cases, or_left, or_right, and_left, and_right}
 use Rattle.tg_syntax.specs.declared.class.Class.{Class}
 use Rattle.tg_syntax.specs.declared.class.Class.TheVariants.{Byte, WordByte, WordByteBut, StringByte, Digit, HighDigit}
 use Rattle.tg_syntax.specs.Bytes.{test, apart}
-use Rattle.tg_syntax.specs.Families.{pick, word_part, string_part, node_part, other_part}
-use Rattle.tg_syntax.specs.Names.{keyword, word_rest, string_rest, word, string, variable, number, term, pair, pairs, bag}
+use Rattle.tg_syntax.specs.Families.{word_part, string_part, node_part}
+use Rattle.tg_syntax.specs.Names.{keyword, word_rest, string_rest, word, number, term}
 use Rattle.tg_syntax.specs.Trees.{node, label, braces, signed_bag, kids}
-use Rattle.tg_syntax.specs.Files.{LINES, lines, file, others, parts, info, system, word_firsts, string_firsts, term_ends, word_info, string_info, node_info, other_info}
+use Rattle.tg_syntax.specs.Files.{file, others, parts, info, system, term_ends, word_info, string_info, node_info, other_info}
 use Rattle.tg_syntax.proofs.Picks.{pick_word, pick_string, pick_node, pick_each, pick_both}
 
 -- ---- the parts at their numbers

@@ -5,13 +5,13 @@ use Rattle.std.proofs.lemmas.Bool.{true≢false, eqb-true, eq-eqb}
 use Rattle.gr_base.specs.Lists.{Each}
 use Rattle.gr_base.proofs.ListLemmas.{same_head, same_tail}
 use Rattle.gr_text.specs.Words.{is_word_byte}
-use Rattle.gr_grammar.specs.Grammars.{Grammar, tok, nil, seq, alt, part, Runs, End, took, failed, take_token, bad_token, bad_end, take_nothing, run_both, run_first, run_left, run_right, run_part, tree_of, is_next}
+use Rattle.gr_grammar.specs.Grammars.{Grammar, alt, part, Runs, End, took, failed, take_token, bad_token, bad_end, take_nothing, run_both, run_first, run_left, run_right, run_part, tree_of, is_next}
 use Rattle.gr_grammar.proofs.Fronts.{no_longer}
 use Rattle.tg_syntax.specs.declared.class.Class.{Class}
 use Rattle.tg_syntax.specs.declared.class.Class.TheVariants.{Byte, WordByte, WordByteBut}
 use Rattle.tg_syntax.specs.Bytes.{test}
 use Rattle.tg_syntax.specs.Families.{word_part}
-use Rattle.tg_syntax.specs.Names.{word_rest, word, string, variable, bag}
+use Rattle.tg_syntax.specs.Names.{word_rest, word, bag}
 use Rattle.tg_syntax.specs.Trees.{keyed, first_item, behind_handle}
 use Rattle.tg_syntax.specs.Files.{system}
 use Rattle.tg_syntax.proofs.FileSystem.{parts_word}

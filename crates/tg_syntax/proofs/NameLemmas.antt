@@ -6,14 +6,13 @@ use Rattle.std.proofs.lemmas.List.{append_cancel_left, append_cancel_right, take
 use Rattle.std.proofs.lemmas.Slice.Eq.{bytes_eq-Decides}
 use Rattle.gr_base.specs.Lists.{IsAmong}
 use Rattle.gr_text.specs.Words.{is_word_byte}
-use Rattle.gr_grammar.specs.Grammars.{Grammar, tok, part, Runs, End, took, failed, take_token, bad_token, bad_end, run_both, run_first, run_left, run_right, run_part, is_next}
+use Rattle.gr_grammar.specs.Grammars.{Runs, took, failed, take_token, bad_token, bad_end, run_both, run_first, run_left, run_right, is_next}
 use Rattle.gr_grammar.proofs.Fronts.{or_cases, or_left, or_right}
 use Rattle.gr_grammar.proofs.Runs.{one_run}
-use Rattle.tg_syntax.specs.declared.class.Class.TheVariants.{Byte, WordByte}
-use Rattle.tg_syntax.specs.Families.{word_part}
+use Rattle.tg_syntax.specs.declared.class.Class.TheVariants.{WordByte}
 use Rattle.tg_syntax.specs.Names.{word_rest, word, term}
 use Rattle.tg_syntax.specs.Files.{system}
-use Rattle.tg_syntax.specs.Breaks.{HasName, whole, before_dash, IsDashed, HasReserved, HasNoMark, reserved, written_marks, Breaks, by_name, by_value, Obeys, is_one_of}
+use Rattle.tg_syntax.specs.Breaks.{HasName, whole, before_dash, IsDashed, HasReserved, HasNoMark, reserved, written_marks, by_name, by_value, Obeys, is_one_of}
 use Rattle.tg_syntax.proofs.Keyed.{out_word}
 
 pub one_of_among : (ts : List (List ℕ)) (text : List ℕ) → is_one_of ts text ≡ true → IsAmong ts text

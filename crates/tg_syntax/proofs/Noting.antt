@@ -1,12 +1,11 @@
 -- Readings that look at properties, part by part.
-use Rattle.std.proofs.Common.{◌≡◌, ℕ, zero, suc, ◌-◌, ◌<◌, ◌≤◌, List, [], ◌∷◌, ◌++◌, length, Bool, true, false, refl, ap, sym, ◌∙◌, subst, arith, append_assoc, append-nil}
+use Rattle.std.proofs.Common.{◌≡◌, ℕ, zero, suc, ◌-◌, ◌≤◌, List, [], ◌∷◌, ◌++◌, length, Bool, true, false, refl, ap, sym, ◌∙◌, subst, arith, append_assoc, append-nil}
 use Rattle.std.specs.Prelude.{◌==◌, ◌&&◌, Option, None, Some, MatchOption, Result, Ok, Err, if◌then◌else◌}
 use Rattle.std.proofs.lemmas.Bool.{true≢false, eqb-true}
-use Rattle.gr_base.specs.Lists.{Each}
 use Rattle.gr_base.proofs.ListLemmas.{Each-append}
 use Rattle.gr_grammar.specs.Grammars.{Grammar, tok, nil, seq, alt, star, part, Runs, End, took, failed, take_token, bad_token, bad_end, take_nothing, run_both, run_first, run_left, run_right, run_end, run_more, run_part, begins, is_next, Rounds, start, round}
 use Rattle.gr_grammar.proofs.Fronts.{and_left, and_right}
-use Rattle.gr_grammar.proofs.Loops.{close, ended, broken}
+use Rattle.gr_grammar.proofs.Loops.{close}
 use Rattle.tg_syntax.specs.declared.class.Class.{Class}
 use Rattle.tg_syntax.specs.declared.class.Class.TheVariants.{Byte}
 use Rattle.tg_syntax.specs.Families.{pick, word_part, string_part, node_part}
@@ -14,7 +13,7 @@ use Rattle.tg_syntax.specs.Names.{keyword, word_rest, word, string_rest, number,
 use Rattle.tg_syntax.specs.Trees.{PROPERTY, label, node, braces, kids, signed_bag, items}
 use Rattle.tg_syntax.specs.Files.{system, parts, others, LINES, lines, trees_rest, cut_line}
 use Rattle.tg_syntax.specs.Visits.{begun}
-use Rattle.tg_syntax.specs.Breaks.{Notes, kept, none, noted, Obeys, Breaks, IsFirstBreak}
+use Rattle.tg_syntax.specs.Breaks.{Notes, kept, none, noted, Obeys, Breaks}
 use Rattle.tg_syntax.specs.Reading.{Read, Ends, Reads, OnLine}
 use Rattle.tg_syntax.proofs.Picks.{pick_word, pick_string, pick_both}
 use Rattle.tg_syntax.proofs.FileSystem.{parts_node}

@@ -1,6 +1,6 @@
 -- What stands in the four families.
 use Rattle.std.proofs.Common.{◌≡◌, ℕ, zero, suc, refl}
-use Rattle.tg_syntax.specs.Families.{pick, word_part, string_part, node_part, other_part}
+use Rattle.tg_syntax.specs.Families.{pick, word_part, string_part, node_part}
 
 pub pick_word : {A : Type 0} (f g h k : ℕ → A) (n : ℕ) → pick f g h k (word_part n) ≡ f n
 pick_word f g h k zero = refl

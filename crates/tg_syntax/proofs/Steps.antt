@@ -1,15 +1,14 @@
 -- The steps of functions that take parts of grammar text.
-use Rattle.std.proofs.Common.{◌≡◌, ℕ, zero, suc, ◌-◌, ◌<◌, ◌≤◌, List, [], ◌∷◌, length, Bool, true, false, refl, ap, sym, ◌∙◌, subst, arith, inl, inr}
+use Rattle.std.proofs.Common.{◌≡◌, ℕ, zero, suc, ◌-◌, ◌<◌, ◌≤◌, List, [], ◌∷◌, length, true, false, refl, sym, ◌∙◌, subst, arith, inl, inr}
 use Rattle.std.proofs.lemmas.Bool.{true≢false, cases_lt}
-use Rattle.gr_grammar.specs.Grammars.{Grammar, tok, nil, seq, alt, star, part, Matches, Runs, End, took, failed, take_nothing, run_both, run_first, run_left, run_right, run_end, run_more, run_part, tree_of, is_next, nullable, Rounds, start, round}
+use Rattle.gr_grammar.specs.Grammars.{Grammar, tok, part, Runs, End, took, failed, take_nothing, run_both, run_first, run_left, run_right, run_part, tree_of, is_next, nullable, Rounds, start, round}
 use Rattle.gr_grammar.proofs.Fronts.{null_of, no_longer}
 use Rattle.tg_syntax.specs.declared.class.Class.{Class}
 use Rattle.tg_syntax.specs.declared.class.Class.TheVariants.{Byte, WordByte, StringByte, Digit}
-use Rattle.tg_syntax.specs.Families.{word_part, string_part, node_part}
+use Rattle.tg_syntax.specs.Families.{word_part, string_part}
 use Rattle.tg_syntax.specs.Names.{keyword, word_rest, string_rest, digits}
-use Rattle.tg_syntax.specs.Trees.{node}
 use Rattle.tg_syntax.specs.Files.{system}
-use Rattle.tg_syntax.proofs.FileSystem.{is_system, parts_word, parts_string, parts_node}
+use Rattle.tg_syntax.proofs.FileSystem.{is_system, parts_word, parts_string}
 
 -- a run of a part at its number
 pub in_word : (n : ℕ) {ts : List ℕ} {e : End ℕ} → Runs system (word_rest n) ts e → Runs system (part (word_part n)) ts e

@@ -1,11 +1,11 @@
 -- Where a reading of a whole file stops.
-use Rattle.std.proofs.Common.{◌≡◌, ℕ, zero, suc, ◌+◌, ◌-◌, ◌<◌, ◌≤◌, List, [], ◌∷◌, ◌++◌, length, take, drop, refl, ap, sym, ◌∙◌, subst, arith}
+use Rattle.std.proofs.Common.{◌≡◌, ℕ, zero, suc, ◌+◌, ◌<◌, List, [], ◌∷◌, ◌++◌, length, take, drop, refl, ap, sym, ◌∙◌, subst, arith}
 use Rattle.std.specs.Prelude.{Option, None, Some, IsNone, IfSome, ◌↔◌, Result, Ok, Err}
 use Rattle.gr_base.specs.Lists.{Each}
-use Rattle.gr_grammar.specs.Grammars.{End, Runs, took, failed, tree_of}
+use Rattle.gr_grammar.specs.Grammars.{End, took, failed, tree_of}
 use Rattle.gr_grammar.proofs.Readings.{stop_fault}
 use Rattle.gr_text.specs.Cursors.{Progress}
-use Rattle.tg_syntax.specs.Breaks.{Notes, kept, none, noted, Obeys, IsFirstBreak}
+use Rattle.tg_syntax.specs.Breaks.{Notes, none, noted, Obeys, IsFirstBreak}
 use Rattle.tg_syntax.specs.Trees.{PROPERTY}
 use Rattle.tg_syntax.specs.Files.{system, file}
 use Rattle.tg_syntax.specs.Visits.{begun}

@@ -1,5 +1,5 @@
 -- Names and variables that break the rule on properties: a property isn't named `cat` or `color`, and `mark` has one of the six marks as value.
-use Rattle.std.specs.Prelude.{◌≡◌, ℕ, ◌<◌, List, [], ◌∷◌, ◌++◌, length, codes, map, Option, None, Some, Bool, true, false, ◌||◌, bytes_eq}
+use Rattle.std.specs.Prelude.{◌≡◌, ℕ, ◌<◌, List, [], ◌∷◌, ◌++◌, length, codes, map, Option, None, Some, Bool, false, ◌||◌, bytes_eq}
 use Rattle.gr_base.specs.Lists.{Each, IsAmong}
 use Rattle.gr_text.specs.Words.{quoted}
 use Rattle.gr_grammar.specs.Grammars.{Runs, took, failed}

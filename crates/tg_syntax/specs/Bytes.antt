@@ -1,5 +1,5 @@
 -- The classes of bytes that grammar text tells apart.
-use Rattle.std.specs.Prelude.{ℕ, Bool, true, false, not, ◌==◌, ◌&&◌, nat_le, Option, Some, None}
+use Rattle.std.specs.Prelude.{ℕ, Bool, false, not, ◌==◌, ◌&&◌, nat_le, Option, Some, None}
 use Rattle.gr_text.specs.Words.{is_word_byte}
 use Rattle.tg_syntax.specs.declared.class.Class.{Class}
 use Rattle.tg_syntax.specs.declared.class.Class.TheVariants.{Byte, WordByte, WordByteBut, StringByte, Digit, HighDigit}

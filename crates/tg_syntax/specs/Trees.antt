@@ -4,7 +4,7 @@ use Rattle.gr_grammar.specs.Grammars.{Grammar, tok, nil, seq, alt, star, part}
 use Rattle.tg_syntax.specs.declared.class.Class.{Class}
 use Rattle.tg_syntax.specs.declared.class.Class.TheVariants.{Byte, WordByte, WordByteBut}
 use Rattle.tg_syntax.specs.Families.{word_part, node_part, other_part}
-use Rattle.tg_syntax.specs.Names.{word, string, variable, term, pair, bag}
+use Rattle.tg_syntax.specs.Names.{string, variable, term, bag}
 
 -- a token that no byte is: what stands before it may begin, and never goes on
 abbrev pub never : Grammar Class

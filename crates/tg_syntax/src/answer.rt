@@ -7,8 +7,8 @@ use crate::reader::Reader;
 use crate::scanner::Scanner;
 use gr_text::{Cursor, Place};
 
-/// The place where this many bytes are left.
-fn place_with(bytes: &[u8], left: usize) -> Place
+/// The place in a text of at most 1,048,576 bytes where this many bytes are left.
+pub fn place_with(bytes: &[u8], left: usize) -> Place
     requires { length bytes.now ≤ 1048576 }
     ensures { result ≡ place_after (take (length bytes.now - left) bytes.now) }
 {

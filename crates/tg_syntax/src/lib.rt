@@ -46,5 +46,5 @@ mod scanner;
 mod tests;
 mod trees;
 
-pub use answer::check_syntax;
+pub use answer::{check_syntax, place_with};
 pub use class::Class;

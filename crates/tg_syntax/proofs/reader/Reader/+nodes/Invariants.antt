@@ -1,11 +1,7 @@
-use Rattle.std.proofs.Common.{length, ◌∷◌, [], ◌*◌, ◌+◌, ◌-◌, ℕ}
-use Rattle.std.specs.Prelude.{Option}
-use Rattle.gr_grammar.specs.Grammars.{End, seq, tok, part}
+use Rattle.std.proofs.Common.{length, ◌*◌, ◌+◌, ◌-◌}
+use Rattle.gr_grammar.specs.Grammars.{seq, tok, part}
 use Rattle.tg_syntax.specs.declared.class.Class.TheVariants.{Byte}
 use Rattle.tg_syntax.specs.Families.{node_part}
-use Rattle.tg_syntax.specs.Trees.{PROPERTY}
-use Rattle.tg_syntax.specs.Files.{class, LINES}
-use Rattle.tg_syntax.specs.Reading.{Read}
 use Rattle.tg_syntax.proofs.Noting.{ReadRow}
 use Rattle.tg_syntax.proofs.reader.Reader.+nodes.Given as goal
 

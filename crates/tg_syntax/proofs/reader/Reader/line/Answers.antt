@@ -1,8 +1,7 @@
-use Rattle.std.proofs.Common.{rules, ◌≡◌, ℕ, ◌∷◌, [], Err, Ok, refl, sym, ◌∙◌, ap, arith, length, ◌<◌, ◌≤◌}
-use Rattle.std.specs.Prelude.{codes, ◌++◌}
-use Rattle.gr_grammar.specs.Grammars.{took, failed}
-use Rattle.tg_syntax.proofs.Steps.{shorter, below}
-use Rattle.tg_syntax.proofs.Noting.{note_of, plain_read, then_read, first_read, left_read, right_read, property_reads, lines_read, node_read, row_start, row_more, row_ended, row_broken, row_below, no_braces, no_brace, some_braces, no_kids, no_kid, some_kids, token_read, keyword_read, bag_read, number_read, word_read, label_read, items_read, trees_read, cut_read}
+use Rattle.std.proofs.Common.{rules, ◌≡◌, Err, refl, sym, ◌∙◌, arith}
+use Rattle.std.specs.Prelude.{codes}
+use Rattle.tg_syntax.proofs.Steps.{shorter}
+use Rattle.tg_syntax.proofs.Noting.{then_read, first_read, left_read, right_read, lines_read, keyword_read, trees_read, cut_read}
 use Rattle.tg_syntax.proofs.reader.Reader.line.Goals as goal
 
 pub returns-in_err-_cut : goal.returns-in_err-_cut

@@ -1,12 +1,8 @@
-use Rattle.std.proofs.Common.{length, ◌∷◌, [], ◌*◌, ◌+◌, ◌-◌, ℕ}
+use Rattle.std.proofs.Common.{length, ℕ}
 use Rattle.std.specs.Prelude.{Option}
-use Rattle.gr_grammar.specs.Grammars.{End, seq, tok, part}
-use Rattle.tg_syntax.specs.declared.class.Class.TheVariants.{Byte}
-use Rattle.tg_syntax.specs.Families.{node_part}
-use Rattle.tg_syntax.specs.Trees.{PROPERTY}
-use Rattle.tg_syntax.specs.Files.{class, LINES}
+use Rattle.gr_grammar.specs.Grammars.{End, part}
+use Rattle.tg_syntax.specs.Files.{LINES}
 use Rattle.tg_syntax.specs.Reading.{Read}
-use Rattle.tg_syntax.proofs.Noting.{ReadRow}
 use Rattle.tg_syntax.proofs.reader.Reader.lines.Given as goal
 
 abbrev pub invariant-lines : goal.invariant-lines

@@ -1,7 +1,5 @@
-use Rattle.std.proofs.Common.{rules, ◌≡◌, ℕ, ◌∷◌, [], Err, Ok, refl, sym, ◌∙◌, ap, arith, length, ◌<◌, ◌≤◌}
-use Rattle.gr_grammar.specs.Grammars.{take_nothing, run_both, run_first, run_left, run_right, run_part, run_end, start, round, took, failed}
-use Rattle.gr_grammar.proofs.Loops.{ended, broken}
-use Rattle.tg_syntax.proofs.Steps.{in_word, in_string, word_full, word_on, word_one_left, word_ends, word_over_dash, word_stops, string_on, string_full, string_ends, digits_on, digits_full, digits_end, keyword_on, keyword_ends, shorter, below}
+use Rattle.std.proofs.Common.{rules, ◌≡◌, Err, sym, ◌∙◌}
+use Rattle.gr_grammar.specs.Grammars.{run_left, run_right}
 use Rattle.tg_syntax.proofs.scanner.Scanner.behind_iface.Goals as goal
 
 pub returns-in_err-_bag : goal.returns-in_err-_bag

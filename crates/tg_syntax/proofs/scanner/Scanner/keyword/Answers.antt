@@ -1,4 +1,4 @@
-use Rattle.std.proofs.Common.{rules, ◌≡◌, ◌∷◌, Err, sym, subst}
+use Rattle.std.proofs.Common.{rules, ◌≡◌, Err, sym, subst}
 use Rattle.gr_grammar.specs.Grammars.{Runs, run_both, run_first, took, failed}
 use Rattle.tg_syntax.specs.Names.{keyword}
 use Rattle.tg_syntax.specs.Files.{system}

@@ -1,4 +1,4 @@
-use Rattle.std.proofs.Common.{length, ◌∷◌, []}
+use Rattle.std.proofs.Common.{length}
 use Rattle.gr_grammar.specs.Grammars.{Rounds, seq, tok}
 use Rattle.tg_syntax.specs.declared.class.Class.TheVariants.{Byte}
 use Rattle.tg_syntax.specs.Names.{pair}

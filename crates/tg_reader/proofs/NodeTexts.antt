@@ -1,16 +1,19 @@
 -- What stands at a node.
 use Rattle.std.specs.Prelude.{◌≡◌, ℕ, ◌<◌, ◌≤◌, ◌==◌, List, [], ◌∷◌, ◌++◌, codes, refl}
-use Rattle.std.proofs.Common.{◌∙◌, append_assoc, arith}
+use Rattle.std.proofs.Common.{◌∙◌, append_assoc, arith, sym}
+use Rattle.gr_base.proofs.ListLemmas.{same_tail}
 use Rattle.gr_symbols.specs.Numbers.{Grows, first_texts}
 use Rattle.gr_symbols.proofs.NumberLemmas.{Names-grows}
-use Rattle.gr_terms.specs.Canonical.{Node, Pairs, category, properties}
+use Rattle.gr_terms.specs.Canonical.{Label, Node, Pairs, category, properties}
 use Rattle.gr_terms.specs.declared.Term.{Term}
 use Rattle.td_canon.specs.TreeText.{category_text, enclosed, node_text, pair_texts}
-use Rattle.tg_reader.specs.Reading.{Differs, Ends, IsClosing, IsKnownPair, IsKnownTerm, IsNodeEnd, is_of}
+use Rattle.td_tree.specs.Trees.{BagPairs}
+use Rattle.tg_reader.specs.Reading.{CanReadCategory, Differs, Ends, IsClosing, IsKnownPair, IsKnownTerm, IsNodeEnd, StandsForCategory, is_of}
 use Rattle.tg_reader.specs.declared.reader.Run.TheVariants.{Word}
 use Rattle.tg_reader.specs.Writable.{IsName}
 use Rattle.tg_reader.proofs.Enclosed.{stops_differs, stops_enclosed, stops_ends, stops_node}
 use Rattle.tg_reader.proofs.PairLemmas.{bare_word, known_pair}
+use Rattle.tg_reader.proofs.Values.{begins_not}
 
 cat_name : IsName (codes "cat")
 unfolding lib.Utf8.encode
@@ -26,6 +29,13 @@ cat_name =
 -- a category is known where its value is
 pub known_category : (texts : List (List ℕ)) (value : Term) → Grows first_texts texts → IsKnownTerm value texts → IsKnownPair texts (record { 0 = 0 }, value)
 known_category texts value first known = known_pair texts (record { 0 = 0 }) value (codes "cat") (Names-grows first_texts texts 0 (codes "cat") refl first) cat_name (bare_word (codes "cat") refl) known
+
+-- where `-` is taken there is no category
+pub no_category : (text : ℕ → List ℕ) (vs : List Label) (all after rest : List ℕ) (bag : BagPairs) → CanReadCategory text vs → bag ≡ [] → all ≡ codes "-" ++ after → all ≡ category_text text vs ++ rest
+    → (after ≡ rest) × ((later : List (List ℕ)) → StandsForCategory text later vs bag)
+no_category text [] all after rest bag can none ate e = (same_tail 45 45 after rest (sym ate ∙ e), λ later. none)
+no_category text (v ∷ []) all after rest bag can none ate e = absurd (begins_not text v 45 after rest can refl (λ k. omega (arith, k)) (λ k. omega (arith, k)) (sym ate ∙ e))
+no_category text (v ∷ w ∷ vs) all after rest bag can none ate e = absurd can
 
 module _ (text : ℕ → List ℕ) where
   abbrev pub braces : Node Pairs → List ℕ

@@ -9,6 +9,13 @@
 //! # Contract for the crates above
 //!
 //! [`read_tree`] gives a tree whose canonical text the text is, or says that it is that of no tree.
+//!
+//! # How it is done
+//!
+//! The reader is loose: it takes every canonical text, and others as well, and each part of it only has
+//! to undo what writing does (`Undoes` in `specs/Reading`). `rules` then looks at the nodes' own bags,
+//! which a text says by a category and braces. At last the tree that was read is written again, and
+//! only where that gives the text, byte by byte, was it the tree's.
 #![tactic(auto)]
 
 mod bags;
@@ -40,18 +47,25 @@ fn tells_texts_apart(symbols: &Symbols)
     let _count = symbols.len();
 }
 
+/// The first texts stand first in a table.
+fn has_first_texts(symbols: &Symbols)
+    ensures { Grows first_texts symbols.now }
+{
+    let _count = symbols.len();
+}
+
 /// The tree whose canonical text this is, or `None` exactly where it is the canonical text of no tree
 /// that can be written. Names are numbers of the table, which only grows, also where there is no
-/// tree; variables have the numbers of the text.
+/// tree.
 pub fn read_tree(alloc: Global, text: &str, symbols: &mut Symbols) -> Result<Option<Tree>, Memory>
-    requires few { length text.now ≤ 1048576 }
-    requires first { Grows first_texts symbols.old }
+    requires { length text.now ≤ 1048576 }
     ensures tree { IfOk result (λ found. IfSome found (λ t. HasText symbols.new t text.now)) }
     ensures writable { IfOk result (λ found. IfSome found (λ t. IsWritableTree symbols.new t)) }
     ensures none { IfOk result (λ found. IfNone found (IsTreeText text.now → ⊥)) }
     ensures grows { Grows symbols.old symbols.new }
     ensures few_more { length symbols.new ≤ length symbols.old + length text.now }
 {
+    has_first_texts(symbols);
     let mut reader = Reader {
         rest: text.as_bytes(),
     };

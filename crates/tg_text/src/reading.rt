@@ -2,12 +2,12 @@
 ghost use Rattle.std.specs.Prelude.{◌≡◌, ◌+◌, ◌≤◌, ◌-◌, ℕ, List, [], ◌∷◌, ◌++◌, length, take, map, IfOk, IfErr, OnErr, OnOk};
 ghost use Rattle.std.specs.Bool.{OnTrue, OnFalse};
 ghost use Rattle.std.specs.Str.{IsUtf8};
-ghost use Rattle.gr_base.specs.Lists.{Each, IsAmong, IsBefore, NoneTwice};
-ghost use Rattle.gr_symbols.specs.Numbers.{Grows, Names, first_texts};
+ghost use Rattle.gr_base.specs.Lists.{Each, IsAmong, IsBefore};
+ghost use Rattle.gr_symbols.specs.Numbers.{Grows};
 ghost use Rattle.gr_text.specs.Places.{line_after};
 ghost use Rattle.td_canon.specs.TreeSets.{Entry, texts_of};
 ghost use Rattle.td_tree.specs.declared.Tree.{Tree as OneTree};
-ghost use Rattle.tg_reader.specs.Writable.{IsTreeText, IsWord};
+ghost use Rattle.tg_reader.specs.Writable.{IsTable, IsTreeText};
 ghost use Rattle.tg_text.specs.Answers.{AreReadClasses, IsGrammarAnswer};
 ghost use Rattle.tg_text.specs.Lines.{inside, between, begins};
 ghost use Rattle.tg_text.specs.Reading.{AreReadTrees, HasTrees, HasBody, HasClasses, IsLinesAnswer, NoClassNext, StopsAt};
@@ -16,14 +16,13 @@ use crate::lines::{behind, class_in, past_closing, tree_in, version_of};
 use gr_base::Memory;
 use gr_symbols::Symbols;
 use gr_terms::Sym;
-use gr_text::Cursor;
 use gr_tokens::ReadRefusal;
 use indexmap::IndexSet;
 use std::alloc::Global;
 use std::str;
 use td_canon::{ClassTrees, TreeSet};
 use tg_reader::read_tree;
-use tg_syntax::check_syntax;
+use tg_syntax::{check_syntax, place_with};
 
 /// Why lines are read no further.
 #[derive(Clone, Copy, Debug, PartialEq, Eq)]
@@ -44,9 +43,9 @@ impl From<Memory> for Stop {
     }
 }
 
-/// No text of a table stands twice.
-fn tells_apart(symbols: &Symbols)
-    ensures { NoneTwice symbols.now }
+/// No text of a table stands twice, and the first texts stand first.
+fn is_table(symbols: &Symbols)
+    ensures { IsTable symbols.now }
 {
     let _number = symbols.len();
 }
@@ -69,7 +68,6 @@ fn add_tree(
     symbols: &mut Symbols,
 ) -> Result<bool, Memory>
     requires few { length text.now ≤ 1048576 }
-    requires first { Grows first_texts symbols.old }
     requires read { AreReadTrees symbols.old trees.old }
     ensures added { IfOk result (λ added. OnTrue added ((t : OneTree) × (trees.new ≡ trees.old ++ record { tree = t; text = text.now } ∷ [])
         × AreReadTrees symbols.new trees.new)) }
@@ -83,7 +81,7 @@ fn add_tree(
     let Some(tree) = read_tree(alloc, text, symbols)? else {
         return Ok(false);
     };
-    tells_apart(symbols);
+    is_table(symbols);
     let _added = trees.add(tree, symbols)?;
     Ok(true)
 }
@@ -94,8 +92,7 @@ fn trees_in<'a>(
     text: &'a str,
     symbols: &mut Symbols,
 ) -> Result<(TreeSet, &'a str), Stop>
-    requires few { length text.now ≤ 1048576 }
-    requires first { Grows first_texts symbols.old }
+    requires { length text.now ≤ 1048576 }
     ensures trees { IfOk result (λ r. HasTrees symbols.new r.0 text.now r.1.now) }
     ensures stops { IfErr result (λ stop. (names : List (List ℕ)) → StopsAt (inside names []) text.now stop) }
     ensures grows { Grows symbols.old symbols.new }
@@ -106,7 +103,7 @@ fn trees_in<'a>(
     let mut rest = text;
     'row: while let Some((tree, more)) = tree_in(rest, trees.len() + 1) {
         if !add_tree(alloc, &mut trees, tree, symbols)? {
-            tells_apart(symbols);
+            is_table(symbols);
             return Err(Stop::Line(rest.len()));
         }
         rest = more;
@@ -122,8 +119,7 @@ fn body_in<'a>(
     text: &'a str,
     symbols: &mut Symbols,
 ) -> Result<(ClassTrees, &'a str), Stop>
-    requires few { length text.now ≤ 1048576 }
-    requires first { Grows first_texts symbols.old }
+    requires { length text.now ≤ 1048576 }
     ensures body { IfOk result (λ r. HasBody symbols.new r.0 text.now r.1.now) }
     ensures class { IfOk result (λ r. r.0.class ≡ class) }
     ensures stops { IfErr result (λ stop. (names : List (List ℕ)) → StopsAt (inside names []) text.now stop) }
@@ -133,7 +129,7 @@ fn body_in<'a>(
 {
     let (trees, rest) = trees_in(alloc, text, symbols)?;
     let Some((cut, end)) = past_closing(rest, trees.len()) else {
-        tells_apart(symbols);
+        is_table(symbols);
         return Err(Stop::Line(rest.len()));
     };
     Ok((ClassTrees { class, trees, cut }, end))
@@ -154,8 +150,7 @@ fn classes_in<'a>(
     text: &'a str,
     symbols: &mut Symbols,
 ) -> Result<(Vec<ClassTrees>, &'a str), Stop>
-    requires few { length text.now ≤ 1048576 }
-    requires first { Grows first_texts symbols.old }
+    requires { length text.now ≤ 1048576 }
     ensures classes { IfOk result (λ r. HasClasses symbols.new r.0.items text.now r.1.now) }
     ensures last { IfOk result (λ r. NoClassNext r.1.now) }
     ensures stops { IfErr result (λ stop. StopsAt (between []) text.now stop) }
@@ -167,11 +162,12 @@ fn classes_in<'a>(
     let mut rest = text;
     'row: while let Some((name, more)) = class_in(rest) {
         let class = symbols.intern(name)?;
+        is_table(symbols);
         if !note(&mut known, class)? {
             return Err(Stop::Line(rest.len()));
         }
         let (found, end) = body_in(alloc, class, more, symbols)?;
-        tells_apart(symbols);
+        is_table(symbols);
         if classes.push(found).is_err() {
             return Err(Stop::Memory);
         }
@@ -182,8 +178,7 @@ fn classes_in<'a>(
 
 /// The classes that a text has, whose lines are just those that are written for them.
 fn lines_in(alloc: Global, text: &str, symbols: &mut Symbols) -> Result<Vec<ClassTrees>, Stop>
-    requires few { length text.now ≤ 1048576 }
-    requires first { Grows first_texts symbols.old }
+    requires { length text.now ≤ 1048576 }
     ensures classes { IfOk result (λ classes. AreReadClasses symbols.new text.now classes.items) }
     ensures stops { IfErr result (λ stop. StopsAt begins text.now stop) }
     ensures grows { Grows symbols.old symbols.new }
@@ -193,7 +188,7 @@ fn lines_in(alloc: Global, text: &str, symbols: &mut Symbols) -> Result<Vec<Clas
         return Err(Stop::Line(text.len()));
     };
     let (classes, last) = classes_in(alloc, rest, symbols)?;
-    tells_apart(symbols);
+    is_table(symbols);
     let Some(end) = behind(last, "end\n") else {
         return Err(Stop::Line(last.len()));
     };
@@ -208,11 +203,7 @@ fn line_with(bytes: &[u8], left: usize) -> u32
     requires { length bytes.now ≤ 1048576 }
     ensures { result ≡ line_after (take (length bytes.now - left) bytes.now) }
 {
-    let mut cursor = Cursor::new(bytes);
-    for _at in 0..bytes.len().saturating_sub(left) {
-        let _byte = cursor.next();
-    }
-    cursor.place().line
+    place_with(bytes, left).line
 }
 
 /// The classes of a text, or the first line that may not stand where it stands.
@@ -221,8 +212,7 @@ fn judged_lines(
     text: &str,
     symbols: &mut Symbols,
 ) -> Result<Vec<ClassTrees>, ReadRefusal>
-    requires few { length text.now ≤ 1048576 }
-    requires first { Grows first_texts symbols.old }
+    requires { length text.now ≤ 1048576 }
     ensures answer { IsLinesAnswer text.now symbols.new result }
     ensures grows { Grows symbols.old symbols.new }
     ensures few_at_most { length symbols.new ≤ length symbols.old + length text.now }
@@ -253,8 +243,7 @@ pub fn read_grammar(
     bytes: &[u8],
     symbols: &mut Symbols,
 ) -> Result<Vec<ClassTrees>, ReadRefusal>
-    requires bytes { length bytes.now ≤ 1048576 }
-    requires first { Grows first_texts symbols.old }
+    requires { length bytes.now ≤ 1048576 }
     ensures answer { IsGrammarAnswer bytes.now symbols.new result }
     ensures grows { Grows symbols.old symbols.new }
     ensures few { length symbols.new ≤ length symbols.old + length bytes.now }

@@ -14,26 +14,26 @@ use Rattle.tg_reader.proofs.read_tree.Goals as goal
 
 pub returns-in-Err-NoTree-clause-none : goal.returns-in-Err-NoTree-clause-none
 returns-in-Err-NoTree-clause-none c = λ is.
-    let r = readable is.texts is.table is.tree c.args.text.now is.has is.writable c.requires.few in
+    let r = readable is.texts is.table is.tree c.args.text.now is.has is.writable c.requires in
     let never = c.in-Err-NoTree.ensures.takes (text_in is.texts) r.form [] r.can refl (c.as_bytes.ensures.value ∙ r.text_is ∙ sym (append-nil _)) in
     rw c.in-Err-NoTree.field-0-is at never
 
 pub all_obey-requires : goal.all_obey-requires
 all_obey-requires c =
-    let known = now c.tree.new.symbols (IsKnownTree c.in-Ok.tree) (c.in-Ok.ensures.known c.requires.first) in
+    let known = now c.tree.new.symbols (IsKnownTree c.in-Ok.tree) (c.in-Ok.ensures.known c.has_first_texts.ensures) in
     subst (λ ns. Each (IsNamedOwn (length c.tree.new.symbols)) ns) (sym c.as_slice.ensures) (named_own c.tree.new.symbols c.in-Ok.tree.nodes known.nodes)
 
 pub returns-then-not-all_obey-clause-none : goal.returns-then-not-all_obey-clause-none
 returns-then-not-all_obey-clause-none c = λ is.
-    let first = Grows-trans first_texts _ c.tree.new.symbols c.requires.first c.tree.ensures.passes.grows in
-    let r = source c.tree.new.symbols c.tells_texts_apart.ensures first c.args.text.now is c.requires.few in
+    let first = Grows-trans first_texts _ c.tree.new.symbols c.has_first_texts.ensures c.tree.ensures.passes.grows in
+    let r = source c.tree.new.symbols c.tells_texts_apart.ensures first c.args.text.now is c.requires in
     let read = c.in-Ok.ensures.takes (text_in is.texts) r.form [] r.can refl (c.as_bytes.ensures.value ∙ r.text_is ∙ sym (append-nil _)) in
     let stands = now c.tree.new.symbols (λ texts. StandsForTree (text_in is.texts) texts r.form c.in-Ok.tree) read.1 in
-    let all = obeys c.tree.new.symbols c.tells_texts_apart.ensures first c.args.text.now is c.requires.few c.in-Ok.tree stands in
+    let all = obeys c.tree.new.symbols c.tells_texts_apart.ensures first c.args.text.now is c.requires c.in-Ok.tree stands in
     false≢true (sym c.if-not-all_obey.true ∙ c.all_obey.ensures.1 (subst (λ ns. Each (Obeys c.tree.new.symbols) ns) (sym c.as_slice.ensures) all))
 
 pub canonical_text-requires-clause-named : goal.canonical_text-requires-clause-named
-canonical_text-requires-clause-named c = named_tree c.tree.new.symbols c.in-Ok.tree (now c.tree.new.symbols (IsKnownTree c.in-Ok.tree) (c.in-Ok.ensures.known c.requires.first))
+canonical_text-requires-clause-named c = named_tree c.tree.new.symbols c.in-Ok.tree (now c.tree.new.symbols (IsKnownTree c.in-Ok.tree) (c.in-Ok.ensures.known c.has_first_texts.ensures))
 
 pub returns-then-eq-clause-tree : goal.returns-then-eq-clause-tree
 returns-then-eq-clause-tree c =
@@ -42,16 +42,16 @@ returns-then-eq-clause-tree c =
 
 pub returns-then-eq-clause-writable : goal.returns-then-eq-clause-writable
 returns-then-eq-clause-writable c =
-    let known = now c.tree.new.symbols (IsKnownTree c.in-Ok.tree) (c.in-Ok.ensures.known c.requires.first) in
+    let known = now c.tree.new.symbols (IsKnownTree c.in-Ok.tree) (c.in-Ok.ensures.known c.has_first_texts.ensures) in
     writable_tree c.tree.new.symbols c.in-Ok.tree known (subst (λ ns. Each (Obeys c.tree.new.symbols) ns) c.as_slice.ensures (c.all_obey.ensures.0 c.if-not-all_obey.false))
 
 pub returns-else-eq-clause-none : goal.returns-else-eq-clause-none
 returns-else-eq-clause-none c = λ is.
-    let first = Grows-trans first_texts _ c.tree.new.symbols c.requires.first c.tree.ensures.passes.grows in
-    let r = source c.tree.new.symbols c.tells_texts_apart.ensures first c.args.text.now is c.requires.few in
+    let first = Grows-trans first_texts _ c.tree.new.symbols c.has_first_texts.ensures c.tree.ensures.passes.grows in
+    let r = source c.tree.new.symbols c.tells_texts_apart.ensures first c.args.text.now is c.requires in
     let read = c.in-Ok.ensures.takes (text_in is.texts) r.form [] r.can refl (c.as_bytes.ensures.value ∙ r.text_is ∙ sym (append-nil _)) in
     let stands = now c.tree.new.symbols (λ texts. StandsForTree (text_in is.texts) texts r.form c.in-Ok.tree) read.1 in
-    let known = now c.tree.new.symbols (IsKnownTree c.in-Ok.tree) (c.in-Ok.ensures.known c.requires.first) in
-    let has = has_text c.tree.new.symbols c.tells_texts_apart.ensures first c.args.text.now is c.requires.few c.in-Ok.tree stands c.in-Ok.ensures.nodes known in
+    let known = now c.tree.new.symbols (IsKnownTree c.in-Ok.tree) (c.in-Ok.ensures.known c.has_first_texts.ensures) in
+    let has = has_text c.tree.new.symbols c.tells_texts_apart.ensures first c.args.text.now is c.requires c.in-Ok.tree stands c.in-Ok.ensures.nodes known in
     let same = one_tree_text c.tree.new.symbols c.in-Ok.tree (string_bytes c.in_ok-written.written) c.args.text.now c.tells_texts_apart.ensures c.in_ok-written.ensures has in
     false≢true (sym c.if-eq.false ∙ c.eq.ensures ∙ (bytes_eq-Decides c.as_str.result.now c.args.text.now).1 (c.as_str.ensures.value ∙ same))

@@ -1,8 +1,5 @@
 use Rattle.std.proofs.Common.{refl, sym, ◌∙◌}
-use Rattle.gr_symbols.specs.Numbers.{first_texts}
-use Rattle.gr_symbols.proofs.NumberLemmas.{Grows-trans}
 use Rattle.td_canon.specs.TreeSets.{texts_of}
-use Rattle.tg_reader.specs.Writable.{IsTable}
 use Rattle.tg_text.proofs.Stopping.{bad_in_class, body_breaks}
 use Rattle.tg_text.proofs.TreeRows.{texts_count}
 use Rattle.tg_text.proofs.reading.body_in.Goals as goal
@@ -11,10 +8,9 @@ pub returns-in_default-clause-stops : goal.returns-in_default-clause-stops
 returns-in_default-clause-stops c = λ names.
     let texts = c.trees_in.new.symbols in
     let set = c.in_ok-trees.trees in
-    let table : IsTable texts = record { once = c.tells_apart.ensures; first = Grows-trans first_texts c.args.symbols.now texts c.requires.first c.trees_in.ensures.grows } in
     let has = c.in_ok-trees.ensures.trees in (
       c.in_ok-trees.rest.now,
-      bad_in_class texts names set c.args.text.now c.in_ok-trees.rest.now table has.read has.split
+      bad_in_class texts names set c.args.text.now c.in_ok-trees.rest.now c.is_table.ensures has.read has.split
           (body_breaks names (texts_of set) c.len.result c.in_ok-trees.rest.now (c.len.ensures.number ∙ sym (texts_count set)) has.last c.in_default.ensures),
       refl,
     )

@@ -1,8 +1,6 @@
 use Rattle.std.proofs.Common.{◌≡◌, [], ◌∷◌, ◌++◌, refl, arith, rules, subst, sym}
 use Rattle.gr_base.specs.Lists.{IsAmong}
-use Rattle.gr_symbols.specs.Numbers.{first_texts}
 use Rattle.gr_symbols.proofs.NumberLemmas.{Grows-trans, Names-grows}
-use Rattle.tg_reader.specs.Writable.{IsTable}
 use Rattle.tg_text.specs.Reading.{HasClasses}
 use Rattle.tg_text.proofs.ClassRows.{class_again, class_line_long, class_more, class_stops, has_stays, numbers_more, numbers_of}
 use Rattle.tg_text.proofs.TreeRows.{same_error, when_false, when_true}
@@ -12,11 +10,10 @@ pub returns-then-not-branch-clause-stops : goal.returns-then-not-branch-clause-s
 returns-then-not-branch-clause-stops c =
     let texts = c.intern.new.self in
     let cs = c.row.classes.items in
-    let once = c.intern.ensures.distinct in
-    let table : IsTable texts = record { once = once; first = Grows-trans first_texts c.row.symbols texts (Grows-trans first_texts c.args.symbols.now c.row.symbols c.requires.first c.row.invariant.grows) c.in_ok-class.ensures.grows } in
+    let table = c.is_table.ensures in
     let there = when_false c.in_ok-note.field-0 c.if-not-branch.true c.in_ok-note.ensures.again in (
       c.row.rest.now,
-      class_again texts table cs c.args.text.now c.row.rest.now (has_stays c.row.symbols texts cs c.args.text.now c.row.rest.now c.in_ok-class.ensures.grows once c.row.invariant.has) c.in_ok-class.class.0 c.in-Some.name.now c.in-Some.more.now c.in_ok-class.ensures.named c.in-Some.ensures.0 c.in-Some.ensures.1
+      class_again texts table cs c.args.text.now c.row.rest.now (has_stays c.row.symbols texts cs c.args.text.now c.row.rest.now c.in_ok-class.ensures.grows table.once c.row.invariant.has) c.in_ok-class.class.0 c.in-Some.name.now c.in-Some.more.now c.in_ok-class.ensures.named c.in-Some.ensures.0 c.in-Some.ensures.1
           (subst (λ ks. IsAmong ks c.in_ok-class.class.0) c.row.invariant.known there),
       refl,
     )
@@ -26,11 +23,10 @@ returns-in_err-found-clause-stops c =
     let e = same_error _ c.from_residual-in_err-found.result c.in_err-found.field-0.0 (λ x g. g) c.from_residual-in_err-found.ensures in
     let texts = c.intern.new.self in
     let cs = c.row.classes.items in
-    let once = c.intern.ensures.distinct in
-    let table : IsTable texts = record { once = once; first = Grows-trans first_texts c.row.symbols texts (Grows-trans first_texts c.args.symbols.now c.row.symbols c.requires.first c.row.invariant.grows) c.in_ok-class.ensures.grows } in
+    let table = c.is_table.ensures in
     let new = when_true c.in_ok-note.field-0 c.if-not-branch.false c.in_ok-note.ensures.new in
     rw e
-    (class_stops texts table cs c.args.text.now c.row.rest.now (has_stays c.row.symbols texts cs c.args.text.now c.row.rest.now c.in_ok-class.ensures.grows once c.row.invariant.has) c.in_ok-class.class.0 c.in-Some.name.now c.in-Some.more.now c.in_err-found.field-0.0 c.in_ok-class.ensures.named
+    (class_stops texts table cs c.args.text.now c.row.rest.now (has_stays c.row.symbols texts cs c.args.text.now c.row.rest.now c.in_ok-class.ensures.grows table.once c.row.invariant.has) c.in_ok-class.class.0 c.in-Some.name.now c.in-Some.more.now c.in_err-found.field-0.0 c.in_ok-class.ensures.named
     c.in-Some.ensures.0 c.in-Some.ensures.1 (λ i. new.0 (subst (λ ks. IsAmong ks c.in_ok-class.class.0) (sym c.row.invariant.known) i)) (c.in_err-found.ensures.stops _))
 
 pub returns-then-is_err-clause-grows : goal.returns-then-is_err-clause-grows
@@ -49,7 +45,7 @@ row-preserved c =
     record {
       has =
           subst (λ ds. HasClasses texts ds c.args.text.now c.in_ok-found.end.now) (sym pushed)
-          (class_more c.row.symbols texts cs found c.in_ok-class.class c.in-Some.name.now c.args.text.now c.row.rest.now c.in-Some.more.now c.in_ok-found.end.now c.row.invariant.has grows c.tells_apart.ensures
+          (class_more c.row.symbols texts cs found c.in_ok-class.class c.in-Some.name.now c.args.text.now c.row.rest.now c.in-Some.more.now c.in_ok-found.end.now c.row.invariant.has grows c.is_table-in-Some.ensures.once
           (Names-grows c.intern.new.self texts c.in_ok-class.class.0 c.in-Some.name.now c.in_ok-class.ensures.named c.body_in.ensures.grows) c.in-Some.ensures.0 c.in-Some.ensures.1 (λ i. new.0 (subst (λ ks. IsAmong ks c.in_ok-class.class.0) (sym c.row.invariant.known) i))
           c.in_ok-found.ensures.class c.in_ok-found.ensures.body);
       known = subst (λ ds. c.note.new.known.keys ≡ numbers_of ds) (sym pushed) (numbers_more c.row.known.keys c.note.new.known.keys cs found c.in_ok-class.class c.row.invariant.known new.1 c.in_ok-found.ensures.class);

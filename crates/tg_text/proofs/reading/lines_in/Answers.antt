@@ -1,9 +1,6 @@
 use Rattle.std.specs.Prelude.{◌==◌}
 use Rattle.std.proofs.Common.{◌∙◌, ℕ, List, length, refl, ap}
 use Rattle.std.proofs.lemmas.Bool.{false≢true}
-use Rattle.gr_symbols.specs.Numbers.{first_texts}
-use Rattle.gr_symbols.proofs.NumberLemmas.{Grows-trans}
-use Rattle.tg_reader.specs.Writable.{IsTable}
 use Rattle.tg_text.proofs.TextRows.{behind_bad, classes_stop, end_bad, version_bad}
 use Rattle.tg_text.proofs.TreeRows.{same_error}
 use Rattle.tg_text.proofs.reading.lines_in.Goals as goal
@@ -19,12 +16,10 @@ returns-in_err-classes-clause-stops c =
 pub returns-in_default-behind-clause-stops : goal.returns-in_default-behind-clause-stops
 returns-in_default-behind-clause-stops c =
     let texts = c.classes_in.new.symbols in
-    let table : IsTable texts = record { once = c.tells_apart.ensures; first = Grows-trans first_texts c.args.symbols.now texts c.requires.first c.classes_in.ensures.grows } in
-    (c.in_ok-classes.last.now, end_bad texts table c.in_ok-classes.classes.items c.args.text.now c.in-Some.rest.now c.in_ok-classes.last.now c.in-Some.ensures c.in_ok-classes.ensures.classes c.in_ok-classes.ensures.last c.in_default-behind.ensures, refl)
+    (c.in_ok-classes.last.now, end_bad texts c.is_table.ensures c.in_ok-classes.classes.items c.args.text.now c.in-Some.rest.now c.in_ok-classes.last.now c.in-Some.ensures c.in_ok-classes.ensures.classes c.in_ok-classes.ensures.last c.in_default-behind.ensures, refl)
 
 pub returns-then-not-is_empty-clause-stops : goal.returns-then-not-is_empty-clause-stops
 returns-then-not-is_empty-clause-stops c =
     let texts = c.classes_in.new.symbols in
-    let table : IsTable texts = record { once = c.tells_apart.ensures; first = Grows-trans first_texts c.args.symbols.now texts c.requires.first c.classes_in.ensures.grows } in
     let end = c.in-Some-behind.end.now in
-    (end, behind_bad texts table c.in_ok-classes.classes.items c.args.text.now c.in-Some.rest.now c.in_ok-classes.last.now c.in-Some.ensures c.in_ok-classes.ensures.classes end c.in-Some-behind.ensures (λ e. false≢true (c.if-not-is_empty.ensures ∙ ap (λ (z : List ℕ). length z == 0) e)), refl)
+    (end, behind_bad texts c.is_table.ensures c.in_ok-classes.classes.items c.args.text.now c.in-Some.rest.now c.in_ok-classes.last.now c.in-Some.ensures c.in_ok-classes.ensures.classes end c.in-Some-behind.ensures (λ e. false≢true (c.if-not-is_empty.ensures ∙ ap (λ (z : List ℕ). length z == 0) e)), refl)

@@ -1,6 +1,4 @@
 use Rattle.std.proofs.Common.{◌+◌, refl, arith, rules}
-use Rattle.gr_symbols.specs.Numbers.{first_texts}
-use Rattle.tg_reader.specs.Writable.{IsTable}
 use Rattle.gr_symbols.proofs.NumberLemmas.{Grows-trans}
 use Rattle.tg_text.proofs.GrownTrees.{trees_stay}
 use Rattle.tg_text.proofs.TreeRows.{split_more, tree_is_bad, tree_line_long, trees_ended, when_false, when_true}
@@ -8,10 +6,9 @@ use Rattle.tg_text.proofs.reading.trees_in.Goals as goal
 
 pub returns-then-not-branch-clause-stops : goal.returns-then-not-branch-clause-stops
 returns-then-not-branch-clause-stops c = λ names.
-    let once = c.tells_apart.ensures in
-    let table : IsTable c.add_tree.new.symbols = record { once = once; first = Grows-trans first_texts c.row.symbols c.add_tree.new.symbols (Grows-trans first_texts c.args.symbols.now c.row.symbols c.requires.first c.row.invariant.grows) c.add_tree.ensures.grows } in (
+    let table = c.is_table.ensures in (
       c.row.rest.now,
-      tree_is_bad c.add_tree.new.symbols names c.row.trees c.args.text.now c.row.rest.now c.in-Some.tree.now c.in-Some.more.now c.len.result table (trees_stay c.row.symbols c.add_tree.new.symbols c.add_tree.ensures.grows once c.row.trees c.row.invariant.read) c.row.invariant.split c.len.ensures.number
+      tree_is_bad c.add_tree.new.symbols names c.row.trees c.args.text.now c.row.rest.now c.in-Some.tree.now c.in-Some.more.now c.len.result table (trees_stay c.row.symbols c.add_tree.new.symbols c.add_tree.ensures.grows table.once c.row.trees c.row.invariant.read) c.row.invariant.split c.len.ensures.number
           c.in-Some.ensures.0 c.in-Some.ensures.1 (when_false c.in_ok-add_tree.field-0 c.if-not-branch.true c.in_ok-add_tree.ensures.refused),
       refl,
     )

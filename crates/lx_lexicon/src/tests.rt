@@ -1,6 +1,7 @@
-use crate::{Entry, Lexicon, read_lexicon};
+use crate::{CoNames, Entry, Lexicon, read_lexicon};
+use gr_base::Items;
 use gr_symbols::Symbols;
-use gr_terms::{EMPTY, MARK, Sym, Term};
+use gr_terms::{Bag, EMPTY, MARK, Sym, Term};
 use gr_text::Place;
 use gr_tokens::ReadRefusal;
 use std::alloc::Global;
@@ -197,5 +198,24 @@ fn bytes_without_tokens_are_refused(rt: HostRuntime) -> Result<(), Fail> {
         Ok(lexicon) => assert_eq!(rt; lexicon.len(), 0),
         Err(_refusal) => assert!(rt; false, "refused"),
     }
+    Ok(())
+}
+
+#[test]
+fn lists_of_entries_take_an_item(rt: HostRuntime) -> Result<(), Fail> {
+    let mut coanchors: CoNames = Items::new(rt.alloc());
+    coanchors.push((MARK, EMPTY))?;
+    assert_eq!(rt; coanchors.as_slice(), [(MARK, EMPTY)].as_slice());
+    let mut lexicon: Lexicon = Items::new(rt.alloc());
+    lexicon.push(Entry {
+        lemma: Sym(20),
+        family: Sym(21),
+        iface: Bag::new(rt.alloc()),
+        anchor: Bag::new(rt.alloc()),
+        coanchors,
+        sem: Items::new(rt.alloc()),
+    })?;
+    assert_eq!(rt; lexicon.len(), 1);
+    assert_eq!(rt; lexicon.get(0).family, Sym(21));
     Ok(())
 }

@@ -23,3 +23,6 @@ mod lexical;
 pub use gr_base::Memory;
 pub use instance::{INSTANCE_LIMIT, Instance, Instances, Places, Selection};
 pub use lexical::{CoLemmas, LexicalTree, LexicalTrees};
+
+#[cfg(test)]
+mod tests;

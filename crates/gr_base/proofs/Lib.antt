@@ -3,3 +3,4 @@ pub mod ForestLemmas
 pub mod Counting
 pub mod OrderedPairs
 pub mod RisingKeys
+pub mod Deciding

@@ -9,7 +9,7 @@ use Rattle.std.proofs.lemmas.Bool.{false≢true}
 use Rattle.std.proofs.lemmas.List.{length_push}
 use Rattle.std.proofs.lemmas.List.Quantifiers.{position-Some}
 use Rattle.std.proofs.lemmas.Option.{none-some, same_Some, slice_get-map, slice_get-get_or}
-use Rattle.gr_base.specs.Lists.{IsAmong, IsWithin, NoneTwice, Each, joined}
+use Rattle.gr_base.specs.Lists.{IsAmong, IsWithin, NoneTwice, Each, joined, gathered}
 
 -- two equal lists with a first element have the same one, and the same rest
 pub same_head : {A : Type 0} (x y : A) (xs ys : List A) → x ∷ xs ≡ y ∷ ys → x ≡ y
@@ -270,3 +270,16 @@ NoneTwice-none_twice eq decides (x ∷ xs) h =
     both : (b c : Bool) → (not b && c) ≡ true → (b ≡ false) × (c ≡ true)
     both true c h = absurd (false≢true h)
     both false c h = (refl, h)
+
+-- a member of lists one after another is a member of one of them
+pub IsAmong-gathered : {A B : Type 0} (f : A → List B) (xs : List A) (x : A) (y : B) → IsAmong xs x → IsAmong (f x) y → IsAmong (gathered f xs) y
+IsAmong-gathered f [] x y i j = absurd i
+IsAmong-gathered f (z ∷ zs) x y (inl e) j = IsAmong-append_left (f z) (gathered f zs) y (subst (λ w. IsAmong (f w) y) e j)
+IsAmong-gathered f (z ∷ zs) x y (inr i) j = IsAmong-append_right (f z) (gathered f zs) y (IsAmong-gathered f zs x y i j)
+
+pub IsAmong-gathered_from : {A B : Type 0} (f : A → List B) (xs : List A) (y : B) → IsAmong (gathered f xs) y → (x : A) × IsAmong xs x × IsAmong (f x) y
+IsAmong-gathered_from f [] y i = absurd i
+IsAmong-gathered_from f (x ∷ xs) y i = elim (IsAmong-append (f x) (gathered f xs) y i) [
+  | inl j ↦ (x, inl refl, j)
+  | inr j ↦ let r = IsAmong-gathered_from f xs y j in (r.0, inr r.1, r.2)
+]

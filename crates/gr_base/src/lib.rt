@@ -59,6 +59,13 @@ impl<T: Drop> Items<T> {
         Items { items }
     }
 
+    /// The vector of the items, which takes no memory.
+    pub fn into_vec(self) -> Vec<T>
+        ensures { result.items ≡ self }
+    {
+        self.items
+    }
+
     /// Appends an item. Without memory the list stays as it was.
     pub fn push(&mut self, item: T) -> Result<(), Memory>
         ensures ok { OnOk result (self.new ≡ self.old ++ item ∷ []) }

@@ -1,15 +1,15 @@
 -- What callers cite of numbers and texts: one number for a text, one text for a number, and numbers that stay as the texts grow.
-use Rattle.std.specs.Prelude.{◌≡◌, ℕ, ◌<◌, Bool, true, false, List, [], ◌++◌, ◌⊎◌, ◌↔◌, length}
+use Rattle.std.specs.Prelude.{◌≡◌, ℕ, ◌<◌, Bool, true, false, List, [], ◌∷◌, ◌++◌, ◌≤◌, ◌+◌, ◌⊎◌, ◌↔◌, length, if◌then◌else◌}
 use Rattle.std.specs.List.{list_any}
 use Rattle.std.specs.Str.{bytes_eq}
-use Rattle.std.proofs.Common.{inl, inr, refl, ap, sym, ◌∙◌, subst, append_assoc}
-use Rattle.std.proofs.lemmas.List.{append-nil}
+use Rattle.std.proofs.Common.{inl, inr, refl, ap, sym, ◌∙◌, subst, append_assoc, arith}
+use Rattle.std.proofs.lemmas.List.{append-nil, length_push}
 use Rattle.std.proofs.lemmas.Option.{same_Some, slice_get_within}
 use Rattle.std.proofs.lemmas.Bool.{false≢true}
 use Rattle.std.proofs.lemmas.Slice.Eq.{bytes_eq-Decides}
 use Rattle.gr_base.specs.Lists.{IsAmong, NoneTwice}
-use Rattle.gr_symbols.specs.Numbers.{Names, Grows}
-use Rattle.gr_base.proofs.ListLemmas.{IsAmong-list_any, list_any-IsAmong, IsAmong-slice_get, slice_get-IsAmong, one_place, slice_get-append_left}
+use Rattle.gr_symbols.specs.Numbers.{Names, Grows, with_text, with_texts}
+use Rattle.gr_base.proofs.ListLemmas.{NoneTwice-push, IsAmong-list_any, list_any-IsAmong, IsAmong-slice_get, slice_get-IsAmong, one_place, slice_get-append_left}
 
 -- a text has one number
 pub one_number : (texts : List (List ℕ)) (a b : ℕ) (t : List ℕ) → NoneTwice texts → Names texts a t → Names texts b t → a ≡ b
@@ -58,3 +58,60 @@ Grows-refl texts = ([], sym (append-nil texts))
 
 pub Grows-trans : (old next new : List (List ℕ)) → Grows old next → Grows next new → Grows old new
 Grows-trans old next new g h = (g.0 ++ h.0, h.1 ∙ ap (λ texts. texts ++ h.0) g.1 ∙ append_assoc old g.0 h.0)
+
+-- a numbering with a text that it has, and with one that it lacks
+pub with_text-known : (texts : List (List ℕ)) (t : List ℕ) → IsAmong texts t → with_text texts t ≡ texts
+unfolding with_text
+with_text-known texts t there =
+    ap (λ b. if b then texts else texts ++ t ∷ []) (list_any-IsAmong (bytes_eq t) texts t there ((bytes_eq-Decides t t).1 refl))
+
+pub with_text-fresh : (texts : List (List ℕ)) (t : List ℕ) → (IsAmong texts t → ⊥) → with_text texts t ≡ texts ++ t ∷ []
+unfolding with_text
+with_text-fresh texts t absent = by (list_any (bytes_eq t) texts) refl
+  where
+    by : (b : Bool) → list_any (bytes_eq t) texts ≡ b → with_text texts t ≡ texts ++ t ∷ []
+    by true e =
+        let r = IsAmong-list_any (bytes_eq t) texts e in
+        absurd (absent (subst (λ u. IsAmong texts u) (sym ((bytes_eq-Decides t r.0).0 r.2)) r.1))
+    by false e = ap (λ b. if b then texts else texts ++ t ∷ []) e
+
+-- what follows of a numbering with one more text follows in both cases
+pub with_text-by : (P : List (List ℕ) → Type 0) (texts : List (List ℕ)) (t : List ℕ)
+    → (IsAmong texts t → P texts) → ((IsAmong texts t → ⊥) → P (texts ++ t ∷ [])) → P (with_text texts t)
+with_text-by P texts t known fresh = by (named_or_absent texts t)
+  where
+    by : ((n : ℕ) × Names texts n t) ⊎ (IsAmong texts t → ⊥) → P (with_text texts t)
+    by (inl named) =
+        let there = IsAmong-Names texts named.0 t named.1 in
+        subst P (sym (with_text-known texts t there)) (known there)
+    by (inr absent) = subst P (sym (with_text-fresh texts t absent)) (fresh absent)
+
+-- it begins with the old one, has the text, gets one more text at most, and none twice
+pub with_text-grows : (texts : List (List ℕ)) (t : List ℕ) → Grows texts (with_text texts t)
+with_text-grows texts t = with_text-by (Grows texts) texts t (λ _. Grows-refl texts) (λ _. (t ∷ [], refl))
+
+pub with_text-once : (texts : List (List ℕ)) (t : List ℕ) → NoneTwice texts → NoneTwice (with_text texts t)
+with_text-once texts t once = with_text-by NoneTwice texts t (λ _. once) (λ absent. NoneTwice-push texts t once absent)
+
+pub with_text-few : (texts : List (List ℕ)) (t : List ℕ) → length (with_text texts t) ≤ length texts + 1
+with_text-few texts t =
+    with_text-by (λ new. length new ≤ length texts + 1) texts t (λ _. omega arith) (λ _. omega (arith, length_push texts t))
+
+-- the same of several texts
+pub with_texts-grows : (texts ts : List (List ℕ)) → Grows texts (with_texts texts ts)
+with_texts-grows texts [] = Grows-refl texts
+with_texts-grows texts (t ∷ ts) =
+    Grows-trans texts (with_text texts t) (with_texts (with_text texts t) ts) (with_text-grows texts t) (with_texts-grows (with_text texts t) ts)
+
+pub with_texts-once : (texts ts : List (List ℕ)) → NoneTwice texts → NoneTwice (with_texts texts ts)
+with_texts-once texts [] once = once
+with_texts-once texts (t ∷ ts) once = with_texts-once (with_text texts t) ts (with_text-once texts t once)
+
+pub with_texts-few : (texts ts : List (List ℕ)) → length (with_texts texts ts) ≤ length texts + length ts
+with_texts-few texts [] = omega arith
+with_texts-few texts (t ∷ ts) = omega (arith, with_text-few texts t, with_texts-few (with_text texts t) ts)
+
+-- texts one after another, in two parts
+pub with_texts-append : (texts ts us : List (List ℕ)) → with_texts texts (ts ++ us) ≡ with_texts (with_texts texts ts) us
+with_texts-append texts [] us = refl
+with_texts-append texts (t ∷ ts) us = with_texts-append (with_text texts t) ts us

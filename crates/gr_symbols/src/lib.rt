@@ -9,7 +9,7 @@
 ghost use Rattle.std.specs.String.{string_bytes};
 ghost use Rattle.std.specs.Prelude.{◌≡◌, ◌+◌, ◌<◌, ◌≤◌, [], ◌∷◌, ◌++◌, length, map, OnOk, OnErr, IfOk, MatchOption};
 ghost use Rattle.gr_base.specs.Lists.{IsAmong, NoneTwice};
-ghost use Rattle.gr_symbols.specs.Numbers.{Names, Grows, first_texts};
+ghost use Rattle.gr_symbols.specs.Numbers.{Names, Grows, first_texts, with_text};
 
 pub use gr_base::Memory;
 use gr_terms::Sym;
@@ -78,6 +78,7 @@ impl Symbols {
         ensures named { IfOk result (λ sym. Names self.new sym.0 text.now) }
         ensures known { OnOk result (IsAmong self.old text.now → self.new ≡ self.old) }
         ensures fresh { OnOk result ((IsAmong self.old text.now → ⊥) → self.new ≡ self.old ++ text.now ∷ []) }
+        ensures table { OnOk result (self.new ≡ with_text self.old text.now) }
         ensures grows { OnOk result (Grows self.old self.new) }
         ensures one_more_at_most { length self.new ≤ length self.old + 1 }
         ensures err { OnErr result (self.new ≡ self.old) }
@@ -120,6 +121,7 @@ impl Symbols {
         ensures len { result ≡ length self.now }
         ensures distinct { NoneTwice self.now }
         ensures first { Grows first_texts self.now }
+        ensures few { result ≤ 4294967295 }
     {
         self.texts.len()
     }

@@ -1,5 +1,5 @@
 -- Lemmas on bags: what a pair put in changes, and that a bag is fixed by its members.
-use Rattle.std.specs.Prelude.{◌≡◌, ℕ, ◌<◌, List, [], ◌∷◌, ◌++◌, length, take, drop, slice_get, Some, ◌⊎◌, refl}
+use Rattle.std.specs.Prelude.{◌≡◌, ℕ, ◌<◌, List, [], ◌∷◌, ◌++◌, length, take, drop, slice_get, Some, ◌⊎◌, refl, Result, Ok, Err, OnErr}
 use Rattle.std.proofs.Common.{inl, inr, ap, sym, ◌∙◌, subst, get_or, arith}
 use Rattle.std.proofs.lemmas.Option.{slice_get-get_or, get_or_from_slice_get, slice_get_within}
 use Rattle.std.proofs.lemmas.List.{take-append-drop, append-nil}
@@ -120,3 +120,8 @@ IsListed-before pairs i pair listed at =
 
 pub LacksAttribute-lower : {X : Type 0} (pairs : List (Sym × X)) (attr : Sym) → Each (λ p. p.0.0 < attr.0) pairs → LacksAttribute pairs attr
 LacksAttribute-lower pairs attr lower value i = let h : attr.0 < attr.0 = Each-at (λ p. p.0.0 < attr.0) pairs (attr, value) lower i in omega arith
+
+-- what holds is so where there was no memory
+pub on_err : {X E : Type 0} (r : Result X E) (P : Type 0) → P → OnErr r P
+on_err (Ok x) P p = tt
+on_err (Err e) P p = p

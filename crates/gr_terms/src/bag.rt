@@ -1,5 +1,5 @@
 //! Bags of attributes and values.
-ghost use Rattle.std.specs.Prelude.{◌≡◌, ◌<◌, ◌≤◌, [], length, IfOk, OnErr, MatchOption, MatchResult, slice_get};
+ghost use Rattle.std.specs.Prelude.{◌≡◌, ◌<◌, ◌≤◌, [], length, IsOk, IfOk, OnErr, MatchOption, MatchResult, slice_get};
 ghost use Rattle.std.specs.Bool.{OnTrue, OnFalse};
 ghost use Rattle.gr_base.specs.Lists.{IsAmong};
 ghost use Rattle.gr_terms.specs.Bags.{IsListed, HasAttribute, LacksAttribute, Puts, StandsAt, FitsAt};
@@ -57,15 +57,20 @@ impl Bag {
     }
 
     /// Puts a pair in, and says `false`, with the bag unchanged, where the attribute is there
-    /// already. Without memory the bag stays as it was.
+    /// already. Without memory the bag stays as it was: that may only be where the attribute is new
+    /// and two pairs or more are there.
     pub fn add(&mut self, attr: Sym, value: Term) -> Result<bool, Memory>
         ensures absent { IfOk result (λ added. OnTrue added (LacksAttribute self.old attr)) }
         ensures added { IfOk result (λ added. OnTrue added (Puts self.old self.new (attr, value))) }
         ensures there { IfOk result (λ added. OnFalse added (HasAttribute self.old attr)) }
         ensures same { IfOk result (λ added. OnFalse added (self.new ≡ self.old)) }
         ensures err { OnErr result (self.new ≡ self.old) }
+        ensures fresh { OnErr result (LacksAttribute self.old attr) }
+        ensures small { length self.old < 2 → IsOk result }
         ensures listed { IsListed self.new }
     {
+        // There is room for two pairs at least.
+        let _room = self.pairs.capacity();
         match find(&self.pairs, attr) {
             Ok(_) => Ok(false),
             Err(place) => {

@@ -3,6 +3,7 @@
 //! variables and slots.
 ghost use Rattle.std.specs.Prelude.{◌≡◌, ◌↔◌, ℕ, List, [], ◌∷◌, ◌++◌};
 ghost use Rattle.gr_base.specs.Lists.{IsWithin, Each};
+ghost use Rattle.gr_base.specs.Decisions.{IsDecided, AreToldApart};
 ghost use Rattle.gr_terms.specs.Networks as net;
 ghost use Rattle.gr_terms.specs.Networks.{entry, equate, link, name, variable, Agrees, AreLinked, AreLinkedSlots, HasValue, Follows, put_term, put_assertion, put_network};
 ghost use Rattle.gr_terms.specs.Interpretations.{Interprets, Entails, AreEquivalent, Labels};
@@ -151,4 +152,17 @@ pub fn link_is_equations()
         → (x y : net.Term ℕ) → AreLinked (N ++ link s t ∷ []) x y ↔ AreLinked (N ++ E) x y }
     ensures agrees { (N E : List (net.Assertion ℕ ℕ)) (s t : ℕ) → Each (EquatesValues N s t) E
         → ShareValues (N ++ E) s t → (Agrees (N ++ link s t ∷ []) ↔ Agrees (N ++ E)) }
+{}
+
+/// Where variables and slots can be told apart, it is decided which slots and which terms a network
+/// links, which terms have a name, and whether the network agrees.
+pub fn agreement_is_decided<V, S>()
+    ensures slots { AreToldApart S → (N : List (net.Assertion V S)) (s t : S)
+        → IsDecided (AreLinkedSlots N s t) }
+    ensures terms { AreToldApart V → AreToldApart S → (N : List (net.Assertion V S)) (x y : net.Term V)
+        → IsDecided (AreLinked N x y) }
+    ensures names { AreToldApart V → AreToldApart S → (N : List (net.Assertion V S)) (x : net.Term V)
+        → IsDecided ((a : ℕ) × AreLinked N x (name a)) }
+    ensures agrees { AreToldApart V → AreToldApart S → (N : List (net.Assertion V S))
+        → IsDecided (Agrees N) }
 {}

@@ -20,7 +20,10 @@
 //!   is new takes no memory. [`Bag::add`] puts a pair in exactly where the attribute is not there.
 //! - [`laws`] has the laws of networks as contracts: a part of an agreeing network agrees, order and
 //!   repetition are free, so is renaming that can be undone, interpretations carry links along, and
-//!   each kind of assertion that is added links just what its law says.
+//!   each kind of assertion that is added links just what its law says. For variables and slots of
+//!   any types whose values can be told apart it is decided what a network links and whether it
+//!   agrees; the proof joins slots link by link and then the equations of the network and of its
+//!   shared attributes one by one (`proofs/Agreeing`).
 //! - The same laws for any type of variables and slots are lemmas: `proofs/NetworkLemmas` on
 //!   interpretations, parts, renaming, equivalence and labellings, `proofs/AdditionLemmas` on one
 //!   more assertion. `proofs/BagLemmas` has what a pair that is put in changes and that a bag is
@@ -53,6 +56,11 @@ pub enum Term {
 }
 
 impl Default for Term {
+    ghost use Rattle.std.specs.Prelude.{◌≡◌};
+    ghost use Rattle.gr_terms.specs.declared.Term.TheVariants.{Var};
+
+    ghost is_default = { λ t. t ≡ Var 0 };
+
     /// The variable with the lowest number.
     fn default() -> Term {
         Term::Var(0)

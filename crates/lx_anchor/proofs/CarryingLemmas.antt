@@ -6,7 +6,7 @@ use Rattle.std.proofs.lemmas.List.{map-append}
 use Rattle.std.proofs.lemmas.Option.{none-some, same_Some}
 use Rattle.gr_base.specs.Lists.{IsAmong, Each, gathered}
 use Rattle.gr_base.specs.Forests.{Forest, empty, tree, labels, map_forest, numbered}
-use Rattle.gr_base.proofs.ListLemmas.{Each-at, IsAmong-append, IsAmong-append_left, IsAmong-append_right, IsAmong-map, IsAmong-map_from, IsAmong-slice_get}
+use Rattle.gr_base.proofs.ListLemmas.{Each-at, IsAmong-append, IsAmong-append_left, IsAmong-append_right, IsAmong-map, IsAmong-map_from, IsAmong-slice_get, IsAmong-gathered}
 use Rattle.gr_terms.specs.BagViews.{pairs_of}
 use Rattle.gr_terms.specs.Canonical.{Node, Decorated, IsMet, node_slots, tree_slots}
 use Rattle.gr_terms.specs.Constants.{ANCHOR}
@@ -18,7 +18,7 @@ use Rattle.td_tree.specs.Trees.{AreTreeNodes, BagPairs}
 use Rattle.td_tree.specs.TreeNetworks.{Part, own_part, top_part, bottom_part, TreeSlot, at_node, at_interface, slots_at, tree_network}
 use Rattle.td_tree.specs.TreeViews.{Pairs, decorated_of, lists_of}
 use Rattle.td_tree.specs.declared.Tree.{Tree}
-use Rattle.td_tree.proofs.TreeNetworkLemmas.{IsAmong-gathered, IsPairAt, TreeEntry, count_from, in_node, in_interface, entry_pair, labels-numbered, list_of, pair_entry, same_slots, tree_entry}
+use Rattle.td_tree.proofs.TreeNetworkLemmas.{IsPairAt, TreeEntry, count_from, in_node, in_interface, entry_pair, labels-numbered, list_of, pair_entry, same_slots, tree_entry}
 use Rattle.tg_grammar.specs.Marks.{is_marked, marked, node_lists}
 use Rattle.tg_grammar.proofs.SightLemmas.{labels-nodes}
 use Rattle.lx_lexicon.specs.declared.entry.Entry.{Entry}

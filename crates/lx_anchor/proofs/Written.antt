@@ -8,7 +8,7 @@ use Rattle.std.proofs.lemmas.Option.{none-some}
 use Rattle.gr_base.specs.Lists.{IsAmong, Each, IsRising}
 use Rattle.gr_base.specs.Forests.{Forest, empty, tree, map_forest, AreAlike}
 use Rattle.gr_base.proofs.ForestLemmas.{AreAlike-weaker, IsOneTree-alike}
-use Rattle.gr_base.proofs.ListLemmas.{Each-append, Each-at, IsAmong-slice_get}
+use Rattle.gr_base.proofs.ListLemmas.{Each-append, Each-at, IsAmong-slice_get, IsAmong-gathered_from}
 use Rattle.gr_terms.specs.BagViews.{pairs_of}
 use Rattle.gr_terms.specs.Bags.{IsListed}
 use Rattle.gr_terms.specs.Canonical.{Node, IsMet, literal_terms, map_literal}
@@ -31,7 +31,6 @@ use Rattle.td_tree.specs.TreeNetworks.{Part, own_part, top_part, bottom_part, Tr
 use Rattle.td_tree.specs.TreeViews.{lists_of}
 use Rattle.td_tree.specs.declared.Tree.{Tree}
 use Rattle.td_tree.specs.declared.TreeNode.{TreeNode}
-use Rattle.td_tree.proofs.TreeNetworkLemmas.{gathered-IsAmong}
 use Rattle.td_model.specs.CanonicalTrees.{StandsForLiteral}
 use Rattle.td_model.proofs.LeastTerms.{least_stands, term_root}
 use Rattle.tg_grammar.specs.Marks.{is_marked, lists_at, marked, node_lists}
@@ -309,7 +308,7 @@ module _ (t : Tree) (e : Entry) (first anchor : ℕ) (nodes : AreTreeNodes t.nod
       joint-fits t e first anchor nodes one below (base nodes.forest t e anchor one s) a x (value-joint nodes.forest t e anchor one s a x has)
   met-fits x (inr i) =
       let all = map (map_literal tree_term) (literals_of t.sem) ++ map (map_literal entry_term) (literals_of e.sem) in
-      let r = gathered-IsAmong literal_terms all x i in
+      let r = IsAmong-gathered_from literal_terms all x i in
       let each = Each-append (λ l. Each F (literal_terms l)) (map (map_literal tree_term) (literals_of t.sem)) (map (map_literal entry_term) (literals_of e.sem)) (tree-fit t.sem below.sem) (entry-fit e.sem) in
       Each-at F (literal_terms r.0) x (Each-at (λ l. Each F (literal_terms l)) all r.0 each r.1) r.2
 

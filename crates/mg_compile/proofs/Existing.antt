@@ -12,8 +12,9 @@ use Rattle.td_canon.specs.CanonicalTexts.{text_in}
 use Rattle.td_canon.proofs.OrderLemmas.{texts_apart}
 use Rattle.td_desc.specs.Descriptions.{Description}
 use Rattle.td_solver.specs.Solutions.{IsModelTotal, IsSolutionText}
-use Rattle.td_count.specs.Decisions.{IsDecided, DifferByTexts}
-use Rattle.td_count.proofs.Deciding.{decided_less}
+use Rattle.td_count.specs.TextsOfModels.{DifferByTexts}
+use Rattle.gr_base.specs.Decisions.{IsDecided}
+use Rattle.gr_base.proofs.Deciding.{decided_less}
 use Rattle.td_count.proofs.Counting.{models_counted}
 use Rattle.td_count.proofs.Sorting.{sorted}
 use Rattle.td_count.proofs.Solving.{all_texts}

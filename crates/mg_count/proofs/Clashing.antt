@@ -6,9 +6,9 @@ use Rattle.gr_terms.specs.Networks.{Term, name, variable, Agrees}
 use Rattle.gr_terms.specs.Canonical.{literal_terms}
 use Rattle.td_desc.specs.declared.Colour.{Colour}
 use Rattle.td_desc.specs.declared.Colour.TheVariants.{Black, White, Red}
-use Rattle.td_count.specs.Decisions.{IsDecided}
-use Rattle.td_count.proofs.Deciding.{decided_by, decided_both, decided_either, decided_not, decided_some}
-use Rattle.td_count.proofs.Agreeing.{decided_agrees}
+use Rattle.gr_base.specs.Decisions.{IsDecided}
+use Rattle.gr_base.proofs.Deciding.{decided_by, decided_both, decided_either, decided_not, decided_some}
+use Rattle.gr_terms.proofs.Agreeing.{decided_agrees}
 use Rattle.mg_facts.specs.declared.variable.Variable.{Variable}
 use Rattle.mg_facts.specs.Said.{Said, block, related, one_node, identified, is_name, coloured, paired, says}
 use Rattle.mg_facts.specs.Meanings.{AreIdentified, itself, backwards, onwards, network, standing, IsValueIn, IsNodeVariable, IsValueVariable, HasColour, Clashes, by_names, by_colours, by_value}

@@ -3,18 +3,17 @@ use Rattle.std.specs.Prelude.{◌≡◌, ℕ, suc, List, [], ◌∷◌, ◌++◌
 use Rattle.std.specs.List.{AllZip}
 use Rattle.std.proofs.Common.{inl, inr, ap, sym, subst}
 use Rattle.gr_base.specs.Lists.{IsAmong, gathered}
-use Rattle.gr_base.proofs.ListLemmas.{IsAmong-append_left, IsAmong-append_right}
+use Rattle.gr_base.proofs.ListLemmas.{IsAmong-append_left, IsAmong-append_right, IsAmong-gathered, IsAmong-gathered_from}
 use Rattle.td_desc.specs.declared.Colour.{Colour}
 use Rattle.td_desc.specs.declared.Colour.TheVariants.{Black, White, Red}
 use Rattle.td_desc.specs.declared.Dominance.{Dominance}
 use Rattle.td_desc.specs.declared.Related.{Related}
 use Rattle.td_desc.specs.Descriptions.{Description, DescribedNode}
-use Rattle.td_count.specs.Decisions.{IsDecided}
-use Rattle.td_count.proofs.Deciding.{decided_by, decided_both, decided_either, decided_not, decided_some}
+use Rattle.gr_base.specs.Decisions.{IsDecided}
+use Rattle.gr_base.proofs.Deciding.{decided_by, decided_both, decided_either, decided_not, decided_some}
 use Rattle.mg_facts.specs.declared.variable.Variable.{Variable}
 use Rattle.mg_facts.specs.Said.{Slot, own_of, top_of, bottom_of, the_interface, Said, block, related, one_node, identified, is_name, coloured, paired, says}
 use Rattle.mg_facts.specs.Meanings.{AreIdentified, itself, network, stands, standing, relation_of, literal_of, HasColour, IsColour, AreFirsts, IsPartOfColour, AreNodes, IsPlaceOf, IsRelation, IsNode, IsDescribed}
-use Rattle.td_colour.proofs.Answering.{IsAmong-gathered, IsAmong-gathered_from}
 use Rattle.mg_count.proofs.Telling.{decided_paint}
 use Rattle.mg_count.proofs.Identified.{decided_identified}
 use Rattle.mg_count.proofs.Clashing.{decided_colours, decided_colour}

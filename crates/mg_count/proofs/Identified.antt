@@ -3,13 +3,13 @@ use Rattle.std.specs.Prelude.{◌≡◌, ℕ, List, [], ◌∷◌, ◌⊎◌, re
 use Rattle.std.proofs.Common.{inl, inr, sym, ◌∙◌, subst}
 use Rattle.gr_base.specs.Lists.{IsAmong, gathered}
 use Rattle.gr_terms.specs.Networks.{Term, name, variable, Assertion, entry, equate, AreLinked, equated, shared, same, back, next}
-use Rattle.td_count.specs.Decisions.{IsDecided}
-use Rattle.td_count.proofs.Deciding.{decided_by}
-use Rattle.td_count.proofs.Agreeing.{decided_linked}
+use Rattle.gr_base.specs.Decisions.{IsDecided}
+use Rattle.gr_base.proofs.Deciding.{decided_by}
+use Rattle.gr_terms.proofs.Agreeing.{decided_linked}
 use Rattle.mg_facts.specs.declared.variable.Variable.{Variable}
 use Rattle.mg_facts.specs.Said.{Slot, Said, block, related, one_node, identified, is_name, coloured, paired, says}
 use Rattle.mg_facts.specs.Meanings.{IsSaidOne, AreIdentified, said_one, itself, backwards, onwards}
-use Rattle.td_colour.proofs.Answering.{IsAmong-gathered, IsAmong-gathered_from}
+use Rattle.gr_base.proofs.ListLemmas.{IsAmong-gathered, IsAmong-gathered_from}
 use Rattle.mg_count.proofs.Telling.{decided_variable, decided_slot}
 
 abbrev Says : Type 0

@@ -3,8 +3,8 @@ use Rattle.std.specs.Prelude.{◌≡◌, ℕ, refl}
 use Rattle.std.proofs.Common.{inl, inr, ap, ap₂}
 use Rattle.td_desc.specs.declared.Colour.{Colour}
 use Rattle.td_desc.specs.declared.Colour.TheVariants.{Black, White, Red}
-use Rattle.td_count.specs.Decisions.{AreToldApart}
-use Rattle.td_count.proofs.Deciding.{decided_by, decided_both, decided_number}
+use Rattle.gr_base.specs.Decisions.{AreToldApart}
+use Rattle.gr_base.proofs.Deciding.{decided_by, decided_both, decided_number}
 use Rattle.mg_facts.specs.declared.variable.Variable.{Variable}
 use Rattle.mg_facts.specs.declared.variable.Local.{Local}
 use Rattle.mg_facts.specs.declared.variable.Local.TheVariants as local

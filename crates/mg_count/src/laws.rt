@@ -1,7 +1,7 @@
 //! Laws of facts, as contracts of functions that do nothing.
 ghost use Rattle.std.specs.Prelude.{List};
 ghost use Rattle.td_desc.specs.Descriptions.{Description};
-ghost use Rattle.td_count.specs.Decisions.{IsDecided};
+ghost use Rattle.gr_base.specs.Decisions.{IsDecided};
 ghost use Rattle.mg_facts.specs.declared.variable.Variable.{Variable};
 ghost use Rattle.mg_facts.specs.Said.{Slot, Said};
 ghost use Rattle.mg_facts.specs.Meanings.{AreIdentified, Clashes, IsDescribed};

@@ -2,7 +2,7 @@
 use Rattle.std.specs.Prelude.{◌≡◌, ℕ, zero, suc, ◌+◌, ◌≤◌, List, [], ◌∷◌, ◌++◌, map, length, Some, refl}
 use Rattle.std.proofs.Common.{inl, inr, ap, ap₂, sym, ◌∙◌, subst, arith}
 use Rattle.gr_base.specs.Lists.{IsAmong, IsWithin, NoneTwice, gathered, joined}
-use Rattle.gr_base.proofs.ListLemmas.{Each-at, Each-members, IsAmong-append, IsAmong-append_left, IsAmong-append_right, IsAmong-map_from, IsAmong-slice_get}
+use Rattle.gr_base.proofs.ListLemmas.{Each-at, Each-members, IsAmong-append, IsAmong-append_left, IsAmong-append_right, IsAmong-map_from, IsAmong-slice_get, IsAmong-gathered, IsAmong-gathered_from}
 use Rattle.gr_base.proofs.Counting.{length-within}
 use Rattle.gr_terms.specs.declared.Sym.{Sym}
 use Rattle.mg_syntax.specs.declared.body.Statement.{Statement, out-Statement, fold_out-Statement, map-Statement}
@@ -23,7 +23,7 @@ use Rattle.mg_expand.specs.Sizes.{sum_of, size_step, statement_size, task_size, 
 use Rattle.mg_expand.specs.Routes.{dues, outcome, LeadsOn}
 use Rattle.mg_expand.proofs.WalkLemmas.{InOrder-InChoiceOrder, one_list}
 use Rattle.mg_expand.proofs.RouteLemmas.{AreRouted, routed-none, routed-deed, routed-call, routed-whole}
-use Rattle.mg_expand.proofs.ListingLemmas.{AreWalks, IsAmong-gathered, IsAmong-gathered_from, no_task, one_deed, one_call, one_choice}
+use Rattle.mg_expand.proofs.ListingLemmas.{AreWalks, no_task, one_deed, one_call, one_choice}
 
 -- HOW MUCH IS BEFORE A WALK
 

@@ -3,7 +3,7 @@ use Rattle.std.specs.Prelude.{◌≡◌, ℕ, zero, suc, ◌+◌, ◌<◌, List,
 use Rattle.std.proofs.Common.{inl, inr, ap, sym, ◌∙◌, subst, arith}
 use Rattle.std.proofs.lemmas.Option.{none-some}
 use Rattle.gr_base.specs.Lists.{IsAmong, gathered}
-use Rattle.gr_base.proofs.ListLemmas.{IsAmong-append, IsAmong-append_left, IsAmong-append_right, IsAmong-map, IsAmong-map_from}
+use Rattle.gr_base.proofs.ListLemmas.{IsAmong-append, IsAmong-append_left, IsAmong-append_right, IsAmong-map, IsAmong-map_from, IsAmong-gathered, IsAmong-gathered_from}
 use Rattle.gr_terms.specs.declared.Sym.{Sym}
 use Rattle.mg_syntax.specs.declared.body.Statement.{Statement}
 use Rattle.mg_syntax.specs.declared.item.Class.{Class}
@@ -13,19 +13,6 @@ use Rattle.mg_deeds.specs.Deeds.{Deed}
 use Rattle.mg_expand.specs.Walks.{How, Walk, end, choose, perform, enter, Task, a_call, a_choice, a_deed, task_of, tasks_of, Does, done, takes, performs, enters, choices, IsEarlier}
 use Rattle.mg_expand.proofs.RouteLemmas.{AreRouted, AreRoutedChoices, routed-last, routed-first, routed-nothing}
 use Rattle.mg_expand.proofs.OrderLemmas.{IsLeftOf-append, IsLeftOf-behind, InOrder, InOrder-append, InOrder-map, InOrder-gathered}
-
-pub IsAmong-gathered : {A B : Type 0} (f : A → List B) (xs : List A) (x : A) (y : B) → IsAmong xs x → IsAmong (f x) y → IsAmong (gathered f xs) y
-IsAmong-gathered f [] x y i j = absurd i
-IsAmong-gathered f (z ∷ xs) x y (inl e) j = IsAmong-append_left (f z) (gathered f xs) y (subst (λ w. IsAmong (f w) y) e j)
-IsAmong-gathered f (z ∷ xs) x y (inr i) j = IsAmong-append_right (f z) (gathered f xs) y (IsAmong-gathered f xs x y i j)
-
-pub IsAmong-gathered_from : {A B : Type 0} (f : A → List B) (xs : List A) (y : B) → IsAmong (gathered f xs) y → (x : A) × IsAmong xs x × IsAmong (f x) y
-IsAmong-gathered_from f [] y i = absurd i
-IsAmong-gathered_from f (z ∷ xs) y i =
-    elim (IsAmong-append (f z) (gathered f xs) y i) [
-      | inl j ↦ (z, inl refl, j)
-      | inr j ↦ let r = IsAmong-gathered_from f xs y j in (r.0, inr r.1, r.2)
-    ]
 
 plus_nothing : (n : ℕ) → n ≡ n + 0
 plus_nothing n = omega arith

@@ -63,5 +63,6 @@ mod tests;
 mod uses;
 mod variables;
 
+pub use gr_base::Memory;
 pub use refusal::ScopeRefusal;
 pub use resolved::{Resolved, resolve};

@@ -39,6 +39,13 @@ impl<T> Row<T> {
         Row { items }
     }
 
+    /// The vector of the items, which takes no memory.
+    pub fn into_vec(self) -> Vec<T>
+        ensures { result.items ≡ self }
+    {
+        self.items
+    }
+
     /// The number of items.
     pub fn len(&self) -> usize
         ensures { result ≡ length self.now }

@@ -12,7 +12,8 @@ use Rattle.gr_store.specs.Contents.{IsMade}
 use Rattle.gr_symbols.proofs.NumberLemmas.{one_text}
 use Rattle.gr_feats.specs.Grammars.{Written, a_name, a_variable, WrittenLiteral}
 use Rattle.gr_feats.specs.Numberings.{none_met}
-use Rattle.sm_input.specs.Inputs.{IsName, IsHandle, IsLiteral, AreNumbered, own_name, IsConst, AreConst}
+use Rattle.sm_input.specs.Inputs.{IsName, IsHandle, IsLiteral, AreNumbered, own_name}
+use Rattle.gr_terms.specs.LiteralViews.{IsConst, AreConst}
 use Rattle.sm_input.specs.Reading.{HandleHas, LiteralHas}
 use Rattle.sm_input.proofs.Same.{word_of, zip_back}
 use Rattle.sm_input.proofs.Spelled.{NoFeed}

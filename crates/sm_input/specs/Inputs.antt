@@ -7,6 +7,7 @@ use Rattle.gr_terms.specs.declared.Sym.{Sym}
 use Rattle.gr_terms.specs.declared.Term.{Term}
 use Rattle.gr_terms.specs.declared.Term.TheVariants.{Const, Var}
 use Rattle.gr_terms.specs.declared.Literal.{Literal}
+use Rattle.gr_terms.specs.LiteralViews.{IsConst, AreConst}
 use Rattle.gr_symbols.specs.Numbers.{Names}
 use Rattle.gr_feats.specs.Grammars.{Written, a_name, a_variable, WrittenLiteral}
 use Rattle.gr_feats.specs.Numberings.{none_met}
@@ -51,16 +52,6 @@ pub record IsInput (texts : List (List ℕ)) (w : WrittenInput) (i : Input) : Ty
 
 abbrev pub AreInputs : List (List ℕ) → List WrittenInput → List Input → Type 0
 AreInputs texts ws is = AllZip (IsInput texts) ws is
-
--- the term is a name
-abbrev pub IsConst : Term → Type 0
-IsConst (Const s) = ⊤
-IsConst (Var k) = ⊥
-
-pub record AreConst (x : Literal) : Type 0 where
-  pub handle : IsConst x.handle
-  pub pred : IsConst x.pred
-  pub args : Each IsConst x.args
 
 -- what matching can rely on: no variable stands in the input, its literals are different, and they are few
 pub record IsGround (i : Input) : Type 0 where

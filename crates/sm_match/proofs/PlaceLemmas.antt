@@ -7,7 +7,7 @@ use Rattle.std.proofs.lemmas.Option.{none-some, same_Some}
 use Rattle.gr_base.specs.Lists.{IsAmong, IsWithin, Each, NoneTwice, IsBefore}
 use Rattle.gr_base.proofs.ListLemmas.{IsAmong-append_left, IsAmong-append_right, IsAmong-append, IsAmong-slice_get, Each-at, NoneTwice-push, NoneTwice-again}
 use Rattle.gr_terms.specs.Canonical.{literal_terms}
-use Rattle.gr_terms.specs.LiteralViews.{literal_of, literals_of}
+use Rattle.gr_terms.specs.LiteralViews.{literal_of, literals_of, IsConst, AreConst}
 use Rattle.gr_terms.specs.Networks as net
 use Rattle.gr_terms.specs.Networks.{equate, Assertion, Agrees, equated}
 use Rattle.gr_terms.specs.Views.{term_of}
@@ -19,7 +19,6 @@ use Rattle.td_tree.specs.Trees.{AreTreeNodes}
 use Rattle.td_tree.specs.TreeNetworks.{tree_network}
 use Rattle.td_tree.specs.TreeViews.{decorated_of}
 use Rattle.td_tree.specs.declared.Tree.{Tree}
-use Rattle.sm_input.specs.Inputs.{IsConst, AreConst}
 use Rattle.tg_model.specs.declared.instance.Instance.{Instance}
 use Rattle.tg_model.specs.Instances.{equations, equations_at, place_equations, FitsPlace, MayStandAt}
 use Rattle.sm_match.specs.declared.bindings.Bound.{Bound}

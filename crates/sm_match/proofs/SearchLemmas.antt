@@ -8,10 +8,9 @@ use Rattle.gr_base.specs.Lists.{IsAmong, Each, IsRising, IsBefore}
 use Rattle.gr_base.proofs.ListLemmas.{IsAmong-append_left, IsAmong-one_more, IsAmong-new_one, Each-at}
 use Rattle.gr_base.proofs.RisingKeys.{lower-take}
 use Rattle.gr_terms.specs.Canonical.{literal_terms}
-use Rattle.gr_terms.specs.LiteralViews.{literal_of}
+use Rattle.gr_terms.specs.LiteralViews.{literal_of, AreConst}
 use Rattle.gr_terms.specs.declared.Literal.{Literal}
 use Rattle.td_tree.specs.declared.Tree.{Tree}
-use Rattle.sm_input.specs.Inputs.{AreConst}
 use Rattle.tg_model.specs.Instances.{equations, FitsPlace, MayStandAt, IsSooner}
 use Rattle.tg_model.specs.declared.instance.TheConstants.{INSTANCE_LIMIT}
 use Rattle.tg_model.specs.declared.instance.Instance.{Instance}

@@ -2,11 +2,10 @@
 use Rattle.std.specs.Prelude.{◌≡◌, ℕ, ◌≤◌, ⊤, List, [], ◌∷◌, ◌++◌, length, Bool, true, false}
 use Rattle.gr_base.specs.Lists.{Each, NoneTwice}
 use Rattle.gr_terms.specs.Bags.{IsListed}
-use Rattle.gr_terms.specs.LiteralViews.{literals_of}
+use Rattle.gr_terms.specs.LiteralViews.{literals_of, AreConst}
 use Rattle.gr_terms.specs.declared.Literal.{Literal}
 use Rattle.td_tree.specs.Trees.{AreTreeNodes, IsListedNode}
 use Rattle.td_tree.specs.declared.Tree.{Tree}
-use Rattle.sm_input.specs.Inputs.{AreConst}
 use Rattle.tg_model.specs.Instances.{FitsPlace, place_equations, MayStandAt}
 use Rattle.tg_model.specs.declared.instance.Instance.{Instance}
 use Rattle.sm_match.specs.declared.bindings.Bound.{Bound}

@@ -2,11 +2,10 @@
 ghost use Rattle.std.specs.Prelude.{◌≡◌, [], ◌∷◌, length, map, IfOk};
 ghost use Rattle.gr_base.specs.Lists.{Each};
 ghost use Rattle.gr_terms.specs.Canonical.{literal_terms};
-ghost use Rattle.gr_terms.specs.LiteralViews.{literal_of};
+ghost use Rattle.gr_terms.specs.LiteralViews.{literal_of, IsConst, AreConst};
 ghost use Rattle.gr_terms.specs.Networks.{equate as equation};
 ghost use Rattle.gr_terms.specs.Views.{term_of};
 ghost use Rattle.gr_terms.specs.declared.Term.TheVariants.{Const};
-ghost use Rattle.sm_input.specs.Inputs.{IsConst, AreConst};
 ghost use Rattle.tg_model.specs.Instances.{equations};
 ghost use Rattle.sm_match.specs.Bindings.{name_of, Equates};
 

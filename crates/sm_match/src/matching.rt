@@ -3,7 +3,7 @@ ghost use Rattle.std.specs.Prelude.{◌≡◌, ◌≤◌, [], length, OnOk};
 ghost use Rattle.gr_base.specs.Lists.{Each};
 ghost use Rattle.td_tree.specs.Trees.{AreTreeNodes};
 ghost use Rattle.tg_model.specs.LexicalTrees.{AreLexical};
-ghost use Rattle.sm_input.specs.Inputs.{AreConst};
+ghost use Rattle.gr_terms.specs.LiteralViews.{AreConst};
 ghost use Rattle.sm_match.specs.Answers.{IsAnswer};
 ghost use Rattle.sm_match.specs.Index.{IsIndex};
 ghost use Rattle.sm_match.specs.Listings.{Finds};

@@ -3,7 +3,7 @@ ghost use Rattle.std.specs.Prelude.{◌≡◌, ℕ, ◌<◌, ◌≤◌, List, []
 ghost use Rattle.std.specs.Bool.{OnFalse};
 ghost use Rattle.gr_base.specs.Lists.{Each, IsAmong};
 ghost use Rattle.gr_terms.specs.Bags.{IsListed};
-ghost use Rattle.sm_input.specs.Inputs.{AreConst};
+ghost use Rattle.gr_terms.specs.LiteralViews.{AreConst};
 ghost use Rattle.sm_match.specs.Index.{IsIndex};
 ghost use Rattle.td_tree.specs.Trees.{IsListedNode};
 ghost use Rattle.tg_model.specs.Instances.{FitsPlace, MayStandAt};

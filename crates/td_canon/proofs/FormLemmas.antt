@@ -8,14 +8,14 @@ use Rattle.std.proofs.lemmas.Option.{same_Some}
 use Rattle.gr_base.specs.Lists.{IsAmong, Each, InByteOrder, IsRising, gathered}
 use Rattle.gr_base.specs.Forests.{Forest, empty, tree, AreAlike, labels, map_forest, numbered, size}
 use Rattle.gr_base.proofs.ForestLemmas.{length-labels}
-use Rattle.gr_base.proofs.ListLemmas.{Each-at, Each-left, Each-right, IsAmong-append_left, IsAmong-append_right, IsAmong-map, IsAmong-map_from, IsAmong-slice_get, slice_get-append_left}
+use Rattle.gr_base.proofs.ListLemmas.{Each-at, Each-left, Each-right, IsAmong-append_left, IsAmong-append_right, IsAmong-map, IsAmong-map_from, IsAmong-slice_get, slice_get-append_left, IsAmong-gathered}
 use Rattle.gr_base.proofs.RisingKeys.{IsRising-same}
 use Rattle.gr_terms.specs.Canonical.{Decorated, Label, Node, named, node_values, walked, values, literal_terms, map_literal, IsExact, IsMet, IsNumberedFrom, IsCanonicalForm, ListsNode, ListsSlot}
 use Rattle.gr_terms.specs.Constants.{CAT}
 use Rattle.gr_terms.specs.Networks.{Term, name, variable, AreLinked, same}
 use Rattle.td_tree.specs.TreeNetworks.{TreeSlot, Part, own_part, top_part, bottom_part, at_node, at_interface, slots_at, slotted, tree_network}
 use Rattle.td_tree.specs.TreeViews.{Pairs}
-use Rattle.td_tree.proofs.TreeNetworkLemmas.{IsAmong-gathered, IsPairAt, list_of, pair_value, same_terms, value_pair}
+use Rattle.td_tree.proofs.TreeNetworkLemmas.{IsPairAt, list_of, pair_value, same_terms, value_pair}
 use Rattle.td_canon.specs.Writing.{category_in, forest_terms, form_node, form_of, in_order, label_in, labelled, meet_all, node_terms, properties_in, tree_terms, values_in}
 use Rattle.td_canon.proofs.MeetingLemmas.{BeginsWith-same, IsMetIn, IsMetIn-meet_all, IsNumberedFrom-met, labels_apart, named-numbered, same_named}
 use Rattle.td_canon.proofs.NodeLemmas.{IsAmong-properties, category-labelled, properties-labelled}

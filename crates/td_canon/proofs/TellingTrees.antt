@@ -4,7 +4,7 @@ use Rattle.std.proofs.Common.{inl, inr, ap, sym, ◌∙◌, subst, arith}
 use Rattle.std.proofs.lemmas.Bool.Decides.{Decides-eqb}
 use Rattle.gr_base.specs.Lists.{IsAmong, Each, InByteOrder, NoneTwice, gathered}
 use Rattle.gr_base.specs.Forests.{Forest, empty, tree, IsOneTree, labels, map_forest, size}
-use Rattle.gr_base.proofs.ListLemmas.{Each-at, Each-append, Each-left, Each-members, Each-right, IsAmong-append, IsAmong-append_left, IsAmong-append_right, IsAmong-map, IsAmong-map_from}
+use Rattle.gr_base.proofs.ListLemmas.{Each-at, Each-append, Each-left, Each-members, Each-right, IsAmong-append, IsAmong-append_left, IsAmong-append_right, IsAmong-map, IsAmong-map_from, IsAmong-gathered}
 use Rattle.gr_terms.specs.BagViews.{pairs_of}
 use Rattle.gr_terms.specs.Canonical.{Label, Node, literal_terms, map_literal}
 use Rattle.gr_terms.specs.LiteralViews.{literal_of, literals_of}
@@ -19,7 +19,6 @@ use Rattle.td_tree.specs.TreeNetworks.{own_part, top_part, bottom_part, slotted,
 use Rattle.td_tree.specs.TreeViews.{Pairs, decorated_of, lists_of}
 use Rattle.td_tree.specs.declared.Tree.{Tree}
 use Rattle.td_tree.specs.declared.TreeNode.{TreeNode}
-use Rattle.td_tree.proofs.TreeNetworkLemmas.{IsAmong-gathered}
 use Rattle.gr_terms.specs.Bags.{IsListed}
 use Rattle.td_canon.specs.CanonicalTexts.{HasText, IsNamedBag, IsNamedLiteral, IsNamedNode, IsNamedTerm, text_in}
 use Rattle.td_canon.specs.Renaming.{AreRenamed}

@@ -6,12 +6,11 @@ use Rattle.std.proofs.lemmas.Bool.Decides.{Decides-eqb}
 use Rattle.gr_base.specs.Lists.{IsAmong, IsWithin, IsBefore, InByteOrder, gathered}
 use Rattle.gr_base.specs.Forests.{Forest, empty, tree, AreAlike, labels}
 use Rattle.gr_base.proofs.Counting.{IsBefore-irreflexive}
-use Rattle.gr_base.proofs.ListLemmas.{Each-at, IsAmong-append, IsAmong-append_left, IsAmong-append_right, IsAmong-map, IsAmong-map_from, same_head, same_tail}
+use Rattle.gr_base.proofs.ListLemmas.{Each-at, IsAmong-append, IsAmong-append_left, IsAmong-append_right, IsAmong-map, IsAmong-map_from, same_head, same_tail, IsAmong-gathered, IsAmong-gathered_from}
 use Rattle.gr_base.proofs.OrderedPairs.{InByteOrder-unique}
 use Rattle.gr_terms.specs.Canonical.{Decorated, Label, Literal, Node, Pairs, named, numbered, category, properties, values, node_slots, node_values, tree_slots, walked, literal_terms, map_literal, IsMet, IsNumberedFrom, IsCanonicalForm, ListsNode, ListsSlot}
 use Rattle.gr_terms.specs.Constants.{CAT}
 use Rattle.gr_terms.specs.Networks.{Term, Assertion, HasValue}
-use Rattle.td_tree.proofs.TreeNetworkLemmas.{IsAmong-gathered, gathered-IsAmong}
 use Rattle.td_canon.proofs.MeetingLemmas.{named-numbered, same_numbered}
 
 -- R holds element by element
@@ -247,10 +246,10 @@ module _ {V S : Type 0} (text : ℕ → List ℕ) (N : List (Assertion V S)) (t 
     )
       where
         gathered_left : {A B : Type 0} (f : A → List B) (xs ys : List A) (y : B) → IsAmong (gathered f xs) y → IsAmong (gathered f (xs ++ ys)) y
-        gathered_left f xs ys y i = let r = gathered-IsAmong f xs y i in IsAmong-gathered f (xs ++ ys) r.0 y (IsAmong-append_left xs ys r.0 r.1) r.2
+        gathered_left f xs ys y i = let r = IsAmong-gathered_from f xs y i in IsAmong-gathered f (xs ++ ys) r.0 y (IsAmong-append_left xs ys r.0 r.1) r.2
 
         gathered_right : {A B : Type 0} (f : A → List B) (xs ys : List A) (y : B) → IsAmong (gathered f ys) y → IsAmong (gathered f (xs ++ ys)) y
-        gathered_right f xs ys y i = let r = gathered-IsAmong f ys y i in IsAmong-gathered f (xs ++ ys) r.0 y (IsAmong-append_right xs ys r.0 r.1) r.2
+        gathered_right f xs ys y i = let r = IsAmong-gathered_from f ys y i in IsAmong-gathered f (xs ++ ys) r.0 y (IsAmong-append_right xs ys r.0 r.1) r.2
 
     -- ---- along the walks
 

@@ -5,11 +5,11 @@ use Rattle.std.proofs.lemmas.Option.{none-some, same_Some, slice_get_within}
 use Rattle.gr_base.specs.Lists.{IsAmong, Each, InByteOrder, IsBefore, gathered}
 use Rattle.gr_base.specs.Forests.{Forest, empty, tree, labels, map_forest, numbered, size, AreAlike}
 use Rattle.gr_base.proofs.Counting.{IsBefore-irreflexive}
-use Rattle.gr_base.proofs.ListLemmas.{Each-at, IsAmong-map, IsAmong-slice_get, IsAmong-append_left, IsAmong-append_right}
+use Rattle.gr_base.proofs.ListLemmas.{Each-at, IsAmong-map, IsAmong-slice_get, IsAmong-append_left, IsAmong-append_right, IsAmong-gathered}
 use Rattle.gr_terms.specs.Canonical.{Node, node_slots, Decorated, Literal, literal_terms, map_literal, Label, Pairs, IsMet, ListsSlot, ListsNode, IsCanonicalForm, tree_slots}
 use Rattle.gr_terms.specs.Networks.{Term, name, Assertion, AreLinked, same, HasValue}
 use Rattle.td_tree.specs.TreeNetworks.{Part, own_part, top_part, bottom_part, TreeSlot, at_node, at_interface, slots_at, tree_network, slotted}
-use Rattle.td_tree.proofs.TreeNetworkLemmas.{IsAmong-gathered, list_of, IsPairAt, value_pair, pair_value, same_terms, labels-numbered, count_from}
+use Rattle.td_tree.proofs.TreeNetworkLemmas.{list_of, IsPairAt, value_pair, pair_value, same_terms, labels-numbered, count_from}
 use Rattle.td_check.specs.ModelTrees.{Beside, HaveAttributes, AreLists, of_node, of_interface, AreInLiterals, of_literal, StandsFor, in_list, in_literal, IsTreeOf, HasEachOnce}
 use Rattle.td_check.proofs.Telling.{OneOfThree, at_first, at_second, at_third, three_at, at_map, labels_map, length_map}
 

@@ -4,7 +4,7 @@ use Rattle.std.specs.List.{AllZip}
 use Rattle.std.proofs.Common.{inl, inr, ap₂, sym, ◌∙◌, subst}
 use Rattle.gr_base.specs.Lists.{IsAmong, gathered}
 use Rattle.gr_base.specs.Forests.{Forest, empty, tree, labels, AreAlike}
-use Rattle.gr_base.proofs.ListLemmas.{IsAmong-append, IsAmong-append_left, IsAmong-append_right}
+use Rattle.gr_base.proofs.ListLemmas.{IsAmong-append, IsAmong-append_left, IsAmong-append_right, IsAmong-gathered, IsAmong-gathered_from}
 use Rattle.gr_base.proofs.ForestLemmas.{AreAlike-through}
 use Rattle.gr_terms.specs.Networks.{Term, name, Assertion, put_term, same, back, next}
 use Rattle.gr_terms.specs.Canonical.{Node, Literal, Decorated, Pairs, Label, literal_terms, map_literal, node_slots, tree_slots, IsMet, IsExact, ListsSlot, ListsNode, IsCanonicalForm}
@@ -53,18 +53,6 @@ AreAlike-second P (tree a kids more) (tree c others rest) b h (inl e) = (a, inl 
 AreAlike-second P (tree a kids more) (tree c others rest) b h (inr i) = elim (IsAmong-append (labels others) (labels rest) b i) [
   | inl j ↦ let r = AreAlike-second P kids others b h.1 j in (r.0, inr (IsAmong-append_left (labels kids) (labels more) r.0 r.1), r.2)
   | inr j ↦ let r = AreAlike-second P more rest b h.2 j in (r.0, inr (IsAmong-append_right (labels kids) (labels more) r.0 r.1), r.2)
-]
-
-pub IsAmong-gathered : {A B : Type 0} (f : A → List B) (xs : List A) (x : A) (y : B) → IsAmong xs x → IsAmong (f x) y → IsAmong (gathered f xs) y
-IsAmong-gathered f [] x y i j = absurd i
-IsAmong-gathered f (z ∷ zs) x y (inl e) j = IsAmong-append_left (f z) (gathered f zs) y (subst (λ w. IsAmong (f w) y) e j)
-IsAmong-gathered f (z ∷ zs) x y (inr i) j = IsAmong-append_right (f z) (gathered f zs) y (IsAmong-gathered f zs x y i j)
-
-pub IsAmong-gathered_from : {A B : Type 0} (f : A → List B) (xs : List A) (y : B) → IsAmong (gathered f xs) y → (x : A) × IsAmong xs x × IsAmong (f x) y
-IsAmong-gathered_from f [] y i = absurd i
-IsAmong-gathered_from f (x ∷ xs) y i = elim (IsAmong-append (f x) (gathered f xs) y i) [
-  | inl j ↦ (x, inl refl, j)
-  | inr j ↦ let r = IsAmong-gathered_from f xs y j in (r.0, inr r.1, r.2)
 ]
 
 -- ---- trees whose slots and values answer each other

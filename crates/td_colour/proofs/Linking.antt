@@ -4,7 +4,7 @@ use Rattle.std.proofs.Common.{inl, inr, ap, ap₂, sym, ◌∙◌, subst}
 use Rattle.std.proofs.lemmas.Bool.{cases_eq}
 use Rattle.gr_base.specs.Lists.{IsAmong, IsWithin, gathered}
 use Rattle.gr_base.specs.Forests.{Forest, empty, tree, labels, map_forest}
-use Rattle.gr_base.proofs.ListLemmas.{IsAmong-append, IsAmong-append_left, IsAmong-append_right, IsAmong-map}
+use Rattle.gr_base.proofs.ListLemmas.{IsAmong-append, IsAmong-append_left, IsAmong-append_right, IsAmong-map, IsAmong-gathered}
 use Rattle.gr_base.proofs.ForestLemmas.{labels-beside}
 use Rattle.gr_terms.specs.Networks.{Assertion}
 use Rattle.td_desc.specs.Descriptions.{Description}
@@ -25,7 +25,6 @@ use Rattle.td_forest.proofs.OneStep.{step_below}
 use Rattle.td_forest.proofs.Sets.{set_in, set_once, gathered_before, gathered_after}
 use Rattle.td_colour.specs.Models.{node_links, set_links, merged_network}
 use Rattle.td_colour.proofs.Modelling.{links_less}
-use Rattle.td_colour.proofs.Answering.{IsAmong-gathered}
 
 -- what is gathered of changed elements is gathered of the elements, or is of E
 gathered_changed : {A B : Type 0} (f : A → List B) (g : A → A) (E : B → Type 0) (y : B) (xs : List A) → ((x : A) → IsAmong xs x → IsAmong (f (g x)) y → IsAmong (f x) y ⊎ E y)

@@ -4,7 +4,7 @@ use Rattle.std.proofs.Common.{inl, inr, sym, subst, arith}
 use Rattle.std.proofs.lemmas.Bool.{cases_lt}
 use Rattle.gr_base.specs.Lists.{IsAmong, Each, IsListing, IsCount, gathered}
 use Rattle.gr_base.specs.Forests.{Forest, empty, tree, labels, IsOneTree}
-use Rattle.gr_base.proofs.ListLemmas.{Each-at, IsAmong-map, IsAmong-map_from, IsAmong-append, IsAmong-append_left, IsAmong-append_right}
+use Rattle.gr_base.proofs.ListLemmas.{Each-at, IsAmong-map, IsAmong-map_from, IsAmong-append, IsAmong-append_left, IsAmong-append_right, IsAmong-gathered, IsAmong-gathered_from}
 use Rattle.gr_terms.specs.Networks.{Agrees}
 use Rattle.td_forest.specs.declared.Step.{Step}
 use Rattle.td_forest.specs.declared.Step.TheVariants.{Merge, Insert}
@@ -15,10 +15,9 @@ use Rattle.td_forest.proofs.OneStep.{named_step, without_below, step_below, belo
 use Rattle.td_desc.specs.Descriptions.{Description}
 use Rattle.td_colour.specs.Colours.{IsLawful}
 use Rattle.td_colour.specs.Models.{merged_network, AllHold, IsForestModel, IsMinimalModel}
-use Rattle.td_colour.proofs.Answering.{IsAmong-gathered, IsAmong-gathered_from}
-use Rattle.td_count.specs.Decisions.{IsDecided, AreToldApart}
-use Rattle.td_count.proofs.Deciding.{decided_by, decided_both, decided_number, decided_list, decided_forest, decided_each, listing_of}
-use Rattle.td_count.proofs.Agreeing.{decided_agrees}
+use Rattle.gr_base.specs.Decisions.{IsDecided, AreToldApart}
+use Rattle.gr_base.proofs.Deciding.{decided_by, decided_both, decided_number, decided_list, decided_forest, decided_each, listing_of}
+use Rattle.gr_terms.proofs.Agreeing.{decided_agrees}
 use Rattle.td_count.proofs.Placing.{decided_relations, decided_lawful}
 
 -- ---- the numbers below one

@@ -6,16 +6,15 @@ use Rattle.std.proofs.lemmas.Bool.Decides.{Decides-eqb}
 use Rattle.std.proofs.lemmas.List.{map-append}
 use Rattle.gr_base.specs.Lists.{IsAmong, InByteOrder, gathered}
 use Rattle.gr_base.specs.Forests.{Forest, empty, tree, labels, map_forest, AreAlike}
-use Rattle.gr_base.proofs.ListLemmas.{IsAmong-map, IsAmong-map_from, IsAmong-append, IsAmong-append_left, IsAmong-append_right}
+use Rattle.gr_base.proofs.ListLemmas.{IsAmong-map, IsAmong-map_from, IsAmong-append, IsAmong-append_left, IsAmong-append_right, IsAmong-gathered, IsAmong-gathered_from}
 use Rattle.gr_terms.specs.Constants.{CAT}
 use Rattle.gr_terms.specs.Networks.{Term, name, Assertion, entry, equate, link, AreLinkedSlots, back_slot, next_slot, AreLinked, shared, same, next, HasValue, Agrees}
 use Rattle.gr_terms.specs.Canonical.{literal_terms, map_literal, Node, node_slots, Decorated, tree_slots, Label, Pairs, category, properties, values, node_values, walked, IsNumberedFrom, IsMet, IsExact, ListsSlot, ListsNode, IsCanonicalForm}
 use Rattle.td_canon.specs.CanonicalTexts.{IsCanonicalText, TellsAttributesApart}
 use Rattle.td_canon.specs.TreeText.{decorated_text}
-use Rattle.td_colour.proofs.Answering.{IsAmong-gathered, IsAmong-gathered_from}
-use Rattle.td_count.specs.Decisions.{IsDecided, AreToldApart}
-use Rattle.td_count.proofs.Deciding.{decided_number}
-use Rattle.td_count.proofs.Agreeing.{decided_slots, when, when_from, when_to}
+use Rattle.gr_base.specs.Decisions.{IsDecided, AreToldApart}
+use Rattle.gr_base.proofs.Deciding.{decided_number}
+use Rattle.gr_terms.proofs.Agreeing.{decided_slots, when, when_from, when_to}
 use Rattle.td_count.proofs.Sorting.{IsSorted, sorted}
 use Rattle.td_count.proofs.Labelling.{HasName, number, number-linked, label, label-linked, linked-label, label-name, Classes, classes}
 

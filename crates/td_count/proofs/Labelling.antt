@@ -4,8 +4,8 @@ use Rattle.std.proofs.Common.{inl, inr, ap, sym, ◌∙◌, subst, append_assoc,
 use Rattle.gr_base.specs.Lists.{IsAmong}
 use Rattle.gr_terms.specs.Networks.{Term, name, Assertion, AreLinked, same, back, next, Agrees}
 use Rattle.gr_terms.specs.Canonical.{Label, named, numbered, IsNumberedFrom}
-use Rattle.td_count.specs.Decisions.{IsDecided, AreToldApart}
-use Rattle.td_count.proofs.Agreeing.{decided_linked, decided_name}
+use Rattle.gr_base.specs.Decisions.{IsDecided, AreToldApart}
+use Rattle.gr_terms.proofs.Agreeing.{decided_linked, decided_name}
 
 module _ {V S : Type 0} (variables : AreToldApart V) (slots : AreToldApart S) (N : List (Assertion V S)) (agrees : Agrees N) where
   abbrev pub HasName : Term V → Type 0

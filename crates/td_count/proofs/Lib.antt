@@ -1,5 +1,3 @@
-pub mod Deciding
-pub mod Agreeing
 pub mod Placing
 pub mod Counting
 pub mod Sorting

@@ -15,8 +15,8 @@ use Rattle.td_desc.specs.Descriptions.{DescribedNode}
 use Rattle.td_colour.specs.Colours.{IsOf, HasOneBlack, IsOneRed, IsLawful}
 use Rattle.td_colour.specs.Models.{AllHold}
 use Rattle.td_colour.specs.Relations.{NoneBetween, HoldsAt, Holds}
-use Rattle.td_count.specs.Decisions.{IsDecided, AreToldApart}
-use Rattle.td_count.proofs.Deciding.{decided_by, decided_both, decided_either, decided_if, decided_not, decided_number, decided_less, decided_list, decided_among, decided_each, decided_members, decided_some, decided_found, decided_option}
+use Rattle.gr_base.specs.Decisions.{IsDecided, AreToldApart}
+use Rattle.gr_base.proofs.Deciding.{decided_by, decided_both, decided_either, decided_if, decided_not, decided_number, decided_less, decided_list, decided_among, decided_each, decided_members, decided_some, decided_found, decided_option}
 
 decided_position : AreToldApart (List ℕ)
 decided_position = decided_list decided_number

@@ -3,14 +3,14 @@ use Rattle.std.specs.Prelude.{◌≡◌, ℕ, List, [], ◌∷◌, Option, Some,
 use Rattle.std.proofs.Common.{inl, inr, sym, subst}
 use Rattle.gr_base.specs.Lists.{IsAmong, Each, gathered}
 use Rattle.gr_base.specs.Forests.{Forest, labels}
-use Rattle.gr_base.proofs.ListLemmas.{IsAmong-append}
+use Rattle.gr_base.proofs.ListLemmas.{IsAmong-append, IsAmong-gathered_from}
 use Rattle.gr_terms.specs.Networks.{Term, Assertion, entry, link}
 use Rattle.td_desc.specs.Descriptions.{Description, DescribedNode}
 use Rattle.td_canon.specs.CanonicalTexts.{IsCanonicalText, TellsAttributesApart}
 use Rattle.td_canon.proofs.TellingLemmas.{one_network_text}
 use Rattle.td_colour.specs.Models.{node_links, set_links, merged_network, model_tree, IsMinimalModel}
-use Rattle.td_colour.proofs.Answering.{IsAmong-gathered_from}
-use Rattle.td_count.specs.Decisions.{AreToldApart, DifferByTexts, IsTextOfModel}
+use Rattle.td_count.specs.TextsOfModels.{DifferByTexts, IsTextOfModel}
+use Rattle.gr_base.specs.Decisions.{AreToldApart}
 use Rattle.td_count.proofs.Counting.{minimal_listed}
 use Rattle.td_count.proofs.Forming.{text_there}
 

@@ -1,27 +1,15 @@
-//! Laws of decisions and counts, as contracts of functions that do nothing.
+//! Laws of counts, as contracts of functions that do nothing.
 ghost use Rattle.std.specs.Prelude.{ℕ, List, ◌↔◌};
 ghost use Rattle.gr_base.specs.Lists.{IsAmong, IsListing, IsCount};
+ghost use Rattle.gr_base.specs.Decisions.{AreToldApart};
 ghost use Rattle.gr_base.specs.Forests.{Forest};
-ghost use Rattle.gr_terms.specs.Networks.{Term, name, Assertion, AreLinked, AreLinkedSlots, Agrees};
+ghost use Rattle.gr_terms.specs.Networks.{Term, Assertion, Agrees};
 ghost use Rattle.gr_terms.specs.Canonical.{Decorated};
 ghost use Rattle.td_canon.specs.CanonicalTexts.{IsCanonicalText, TellsAttributesApart};
 ghost use Rattle.td_forest.specs.Nodes.{IsForestOf};
 ghost use Rattle.td_desc.specs.Descriptions.{Description};
 ghost use Rattle.td_colour.specs.Models.{IsForestModel, IsMinimalModel};
-ghost use Rattle.td_count.specs.Decisions.{IsDecided, AreToldApart, DifferByTexts, IsTextOfModel};
-
-/// Where variables and slots can be told apart, it is decided which slots and which terms a network
-/// links, which terms have a name, and whether the network agrees.
-pub fn agreement_is_decided<V, S>()
-    ensures slots { AreToldApart S → (N : List (Assertion V S)) (s t : S)
-        → IsDecided (AreLinkedSlots N s t) }
-    ensures terms { AreToldApart V → AreToldApart S → (N : List (Assertion V S)) (x y : Term V)
-        → IsDecided (AreLinked N x y) }
-    ensures names { AreToldApart V → AreToldApart S → (N : List (Assertion V S)) (x : Term V)
-        → IsDecided ((a : ℕ) × AreLinked N x (name a)) }
-    ensures agrees { AreToldApart V → AreToldApart S → (N : List (Assertion V S))
-        → IsDecided (Agrees N) }
-{}
+ghost use Rattle.td_count.specs.TextsOfModels.{DifferByTexts, IsTextOfModel};
 
 /// The forests of the first m nodes are finitely many.
 pub fn forests_are_finite()

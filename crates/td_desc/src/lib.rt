@@ -26,6 +26,7 @@ ghost use Rattle.std.specs.Prelude.{◌≡◌, length};
 pub mod laws;
 
 use gr_base::Items;
+pub use gr_base::Memory;
 pub use gr_terms::{Literals, Network, SlotId};
 
 /// The colour of a node.

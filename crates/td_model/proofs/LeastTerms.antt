@@ -4,12 +4,11 @@ use Rattle.std.specs.Prelude.{◌≡◌, ℕ, suc, ◌<◌, ◌≤◌, List, [],
 use Rattle.std.proofs.Common.{inl, inr, ap, sym, ◌∙◌, subst, arith}
 use Rattle.std.proofs.lemmas.Bool.{cases_eq, cases_lt}
 use Rattle.gr_base.specs.Lists.{IsAmong, gathered}
-use Rattle.gr_base.proofs.ListLemmas.{IsAmong-append, IsAmong-append_left, IsAmong-append_right}
+use Rattle.gr_base.proofs.ListLemmas.{IsAmong-append, IsAmong-append_left, IsAmong-append_right, IsAmong-gathered, IsAmong-gathered_from}
 use Rattle.gr_terms.specs.Networks.{Term, name, variable, Assertion, entry, equate, link, AreLinkedSlots, AreLinked, linked, same_slot, back_slot, next_slot, equated, shared, same, back, next}
 use Rattle.gr_terms.specs.declared.Term as code
 use Rattle.gr_terms.proofs.ViewLemmas.{term_from}
 use Rattle.gr_feats.specs.CanonicalBags.{StandsFor}
-use Rattle.td_tree.proofs.TreeNetworkLemmas.{IsAmong-gathered, gathered-IsAmong}
 
 -- the two are one, or not
 abbrev pub Tells : {A : Type 0} → A → A → Type 0
@@ -157,7 +156,7 @@ module _ (N : List (Assertion ℕ ℕ)) where
   slots_linked : (s t : ℕ) → slot_root s ≡ slot_root t → AreLinkedSlots N s t
   slots_linked s t e =
       rooted-only cases_eq (λ k. k) (AreLinkedSlots N) same_slot back_slot next_slot (gathered linked_pair N)
-      (λ p i. let r = gathered-IsAmong linked_pair N p i in pair_linked r.0 p r.1 r.2) s t e
+      (λ p i. let r = IsAmong-gathered_from linked_pair N p i in pair_linked r.0 p r.1 r.2) s t e
 
   -- ---- values
 
@@ -231,10 +230,10 @@ module _ (N : List (Assertion ℕ ℕ)) where
 
   pairs_linked : (p : Term ℕ × Term ℕ) → IsAmong term_pairs p → AreLinked N p.0 p.1
   pairs_linked p i = elim (IsAmong-append (gathered equated_pair N) shared_pairs p i) [
-    | inl j ↦ let r = gathered-IsAmong equated_pair N p j in equated_linked r.0 p r.1 r.2
+    | inl j ↦ let r = IsAmong-gathered_from equated_pair N p j in equated_linked r.0 p r.1 r.2
     | inr j ↦
-        let r = gathered-IsAmong (λ e. gathered (shared_pair e) N) N p j in
-        let q = gathered-IsAmong (shared_pair r.0) N p r.2 in
+        let r = IsAmong-gathered_from (λ e. gathered (shared_pair e) N) N p j in
+        let q = IsAmong-gathered_from (shared_pair r.0) N p r.2 in
         shared_linked r.0 q.0 p r.1 q.1 q.2
   ]
 

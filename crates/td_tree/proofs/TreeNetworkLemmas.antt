@@ -6,24 +6,12 @@ use Rattle.std.proofs.lemmas.Option.{none-some, same_Some}
 use Rattle.gr_base.specs.Lists.{IsAmong, gathered}
 use Rattle.gr_base.specs.Forests.{Forest, empty, tree, labels, numbered, size}
 use Rattle.gr_base.proofs.ForestLemmas.{length-labels}
-use Rattle.gr_base.proofs.ListLemmas.{IsAmong-append, IsAmong-append_left, IsAmong-append_right}
+use Rattle.gr_base.proofs.ListLemmas.{IsAmong-append, IsAmong-append_left, IsAmong-append_right, IsAmong-gathered, IsAmong-gathered_from}
 use Rattle.gr_terms.specs.Canonical.{Node, Decorated}
 use Rattle.gr_terms.specs.Networks.{Term, Assertion, entry, equate, link, AreLinked, AreLinkedSlots, HasValue, equated, shared, same, back, next, linked, same_slot, back_slot, next_slot}
 use Rattle.td_tree.specs.TreeNetworks.{Part, own_part, top_part, bottom_part, TreeSlot, at_node, at_interface, entries_at, node_network, tree_network}
 
 -- ---- lists gathered, and lists with numbers beside their elements
-
-pub IsAmong-gathered : {A B : Type 0} (f : A → List B) (xs : List A) (x : A) (y : B) → IsAmong xs x → IsAmong (f x) y → IsAmong (gathered f xs) y
-IsAmong-gathered f [] x y i j = absurd i
-IsAmong-gathered f (z ∷ xs) x y (inl e) j = IsAmong-append_left (f z) (gathered f xs) y (subst (λ w. IsAmong (f w) y) e j)
-IsAmong-gathered f (z ∷ xs) x y (inr i) j = IsAmong-append_right (f z) (gathered f xs) y (IsAmong-gathered f xs x y i j)
-
-pub gathered-IsAmong : {A B : Type 0} (f : A → List B) (xs : List A) (y : B) → IsAmong (gathered f xs) y → (x : A) × IsAmong xs x × IsAmong (f x) y
-gathered-IsAmong f [] y i = absurd i
-gathered-IsAmong f (z ∷ xs) y i = elim (IsAmong-append (f z) (gathered f xs) y i) [
-  | inl j ↦ (z, inl refl, j)
-  | inr j ↦ let r = gathered-IsAmong f xs y j in (r.0, inr r.1, r.2)
-]
 
 abbrev pub count_from : {A : Type 0} → ℕ → List A → List (ℕ × A)
 count_from n [] = []
@@ -106,7 +94,7 @@ module _ {V : Type 0} where
     pub tree_entry : (e : Assertion V TreeSlot) → IsAmong (tree_network t) e → TreeEntry e
     tree_entry e i = elim (IsAmong-append (gathered node_network (labels (numbered 0 t.nodes))) (entries_at at_interface t.interface) e i) [
       | inl j ↦
-          let r = gathered-IsAmong node_network (labels (numbered 0 t.nodes)) e j in
+          let r = IsAmong-gathered_from node_network (labels (numbered 0 t.nodes)) e j in
           let at = count_from-IsAmong 0 r.0.0 (labels t.nodes) r.0.1 (subst (λ ls. IsAmong ls r.0) (labels-numbered 0 t.nodes) r.1) in
           in_node r.0.0 r.0.1 (ap (slice_get (labels t.nodes)) (omega (arith, at.1)) ∙ at.2) (node_network-IsAmong r.0.0 r.0.1 e r.2)
       | inr j ↦ let r = entries_at-IsAmong at_interface t.interface e j in in_interface r.0 r.1 r.2

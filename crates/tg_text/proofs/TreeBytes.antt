@@ -8,7 +8,7 @@ use Rattle.std.proofs.lemmas.Bool.{false≢true, leb-true}
 use Rattle.std.proofs.lemmas.Str.{IsUtf8-append, IsUtf8-from_ascii, IsUtf8-nil}
 use Rattle.gr_base.specs.Lists.{IsAmong, Each, gathered}
 use Rattle.gr_base.specs.Forests.{Forest, empty, tree, AreAlike, labels, map_forest, size}
-use Rattle.gr_base.proofs.ListLemmas.{Each-append, Each-at, Each-left, Each-members, Each-right, IsAmong-append_left, IsAmong-append_right, IsAmong-slice_get}
+use Rattle.gr_base.proofs.ListLemmas.{Each-append, Each-at, Each-left, Each-members, Each-right, IsAmong-append_left, IsAmong-append_right, IsAmong-slice_get, IsAmong-gathered}
 use Rattle.gr_text.specs.Words.{is_word, quoted}
 use Rattle.gr_terms.specs.BagViews.{pairs_of}
 use Rattle.gr_terms.specs.Canonical.{Decorated, IsCanonicalForm, IsMet, Label, ListsNode, ListsSlot, Literal, Node, Pairs, category, literal_terms, map_literal, named, tree_slots, numbered as counted, properties, node_slots}
@@ -23,7 +23,7 @@ use Rattle.td_tree.specs.Trees.{BagPairs, preorder}
 use Rattle.td_tree.specs.TreeNetworks.{Part, TreeSlot, at_interface, at_node, bottom_part, own_part, slotted, top_part, tree_network}
 use Rattle.td_tree.specs.TreeViews.{decorated_of, lists_of, Pairs as TreePairs}
 use Rattle.td_tree.specs.declared.Tree.{Tree}
-use Rattle.td_tree.proofs.TreeNetworkLemmas.{IsAmong-gathered, IsPairAt, in_interface, in_node, list_of, tree_entry, value_pair, TreeEntry}
+use Rattle.td_tree.proofs.TreeNetworkLemmas.{IsPairAt, in_interface, in_node, list_of, tree_entry, value_pair, TreeEntry}
 use Rattle.td_canon.specs.CanonicalTexts.{HasText, text_in}
 use Rattle.td_canon.specs.Spelling.{Lacks}
 use Rattle.td_canon.specs.TreeText.{category_text, decorated_text, enclosed, label_text, literal_text, node_text, pair_texts, spelled, tree_texts}

@@ -5,12 +5,16 @@ use Rattle.std.proofs.lemmas.List.{length-map, length_push}
 use Rattle.gr_base.specs.Lists.{NoneTwice}
 use Rattle.gr_base.proofs.ListLemmas.{NoneTwice-push, slice_get_push}
 use Rattle.gr_symbols.specs.Numbers.{Grows, first_texts}
-use Rattle.gr_symbols.proofs.NumberLemmas.{Grows-trans, IsAmong-Names}
+use Rattle.gr_symbols.proofs.NumberLemmas.{Grows-trans, IsAmong-Names, with_text-known, with_text-fresh}
 use Rattle.gr_symbols.proofs.Lookups.{texts-insert_key}
 use Rattle.gr_symbols.proofs.Symbols.intern.Goals as goal
 
 pub returns-in-Some-clause-fresh : goal.returns-in-Some-clause-fresh
 returns-in-Some-clause-fresh c = λ new. absurd (new (IsAmong-Names c.args.self.now c.in-Some.sym.0 c.args.text.now c.in-Some.ensures))
+
+pub returns-in-Some-clause-table : goal.returns-in-Some-clause-table
+returns-in-Some-clause-table c =
+    sym (with_text-known c.args.self.now c.args.text.now (IsAmong-Names c.args.self.now c.in-Some.sym.0 c.args.text.now c.in-Some.ensures))
 
 -- the texts once the new one went last
 texts_after : (c : goal.In_ok-insert) → map string_bytes c.insert.new.self.keys ≡ c.args.self.now ++ c.args.text.now ∷ []
@@ -43,6 +47,7 @@ returns c =
       named = rw (texts_after c, number) (slice_get_push c.args.self.now c.args.text.now);
       known = λ i. absurd (c.in_default.ensures i);
       fresh = λ _. texts_after c;
+      table = texts_after c ∙ sym (with_text-fresh c.args.self.now c.args.text.now c.in_default.ensures);
       grows = (c.args.text.now ∷ [], texts_after c);
       one_more_at_most = omega (arith, length_after c);
       err = tt;

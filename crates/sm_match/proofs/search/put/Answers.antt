@@ -5,9 +5,8 @@ use Rattle.std.proofs.lemmas.Result.{IfOk-weaker}
 use Rattle.gr_base.specs.Lists.{IsAmong}
 use Rattle.gr_base.proofs.ListLemmas.{Each-at, IsAmong-slice_get}
 use Rattle.gr_terms.specs.Canonical.{literal_terms}
-use Rattle.gr_terms.specs.LiteralViews.{literal_of}
+use Rattle.gr_terms.specs.LiteralViews.{literal_of, AreConst}
 use Rattle.gr_terms.specs.declared.Literal.{Literal}
-use Rattle.sm_input.specs.Inputs.{AreConst}
 use Rattle.tg_model.specs.Instances.{equations}
 use Rattle.sm_match.specs.Bindings.{Equates}
 use Rattle.sm_match.specs.Tasks.{Puts}

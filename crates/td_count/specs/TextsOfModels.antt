@@ -1,19 +1,11 @@
--- What is decided: it is known to hold, or known not to hold. And what is said of the texts of a description's minimal models.
-use Rattle.std.specs.Prelude.{◌≡◌, ℕ, List, ◌⊎◌}
+-- What is said of the texts of a description's minimal models.
+use Rattle.std.specs.Prelude.{◌≡◌, ℕ, List}
 use Rattle.gr_base.specs.Lists.{IsAmong}
 use Rattle.gr_base.specs.Forests.{Forest}
 use Rattle.gr_terms.specs.Networks.{Term, entry}
 use Rattle.td_desc.specs.Descriptions.{Description}
 use Rattle.td_canon.specs.CanonicalTexts.{IsCanonicalText}
 use Rattle.td_colour.specs.Models.{IsMinimalModel, merged_network, model_tree}
-
--- it holds, or it does not
-abbrev pub IsDecided : Type 0 → Type 0
-IsDecided A = A ⊎ (A → ⊥)
-
--- any two values are the same, or not
-abbrev pub AreToldApart : Type 0 → Type 0
-AreToldApart A = (x y : A) → IsDecided (x ≡ y)
 
 -- the attributes of a description differ by their texts
 abbrev pub DifferByTexts : {V S : Type 0} → (ℕ → List ℕ) → Description V S → Type 0

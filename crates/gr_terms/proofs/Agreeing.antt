@@ -3,15 +3,14 @@
 use Rattle.std.specs.Prelude.{◌≡◌, ℕ, List, [], ◌∷◌, ◌++◌, map, refl}
 use Rattle.std.proofs.Common.{inl, inr, ap, sym, ◌∙◌, subst}
 use Rattle.gr_base.specs.Lists.{IsAmong, gathered}
-use Rattle.gr_base.proofs.ListLemmas.{IsAmong-map, IsAmong-map_from, IsAmong-append, IsAmong-append_left, IsAmong-append_right}
+use Rattle.gr_base.proofs.ListLemmas.{IsAmong-map, IsAmong-map_from, IsAmong-append, IsAmong-append_left, IsAmong-append_right, IsAmong-gathered, IsAmong-gathered_from}
 use Rattle.gr_terms.specs.Networks.{Term, name, variable, Assertion, entry, equate, link, AreLinkedSlots, linked, same_slot, back_slot, next_slot, AreLinked, equated, shared, same, back, next, Agrees, Follows}
 use Rattle.gr_terms.specs.Interpretations.{Entails}
 use Rattle.gr_terms.specs.Additions.{Joined, as_before, across, across_back, JoinedSlots, slots_before, slots_across, slots_back, AreCompatible}
 use Rattle.gr_terms.proofs.NetworkLemmas.{AreLinked-part, AreLinkedSlots-part, Agrees-part, AreLinked-entailed}
 use Rattle.gr_terms.proofs.AdditionLemmas.{AreLinked-equate, AreLinkedSlots-equate, AreLinkedSlots-entry, AreLinkedSlots-link, Agrees-equate}
-use Rattle.td_colour.proofs.Answering.{IsAmong-gathered, IsAmong-gathered_from}
-use Rattle.td_count.specs.Decisions.{IsDecided, AreToldApart}
-use Rattle.td_count.proofs.Deciding.{decided_by, decided_both, decided_number, behind_within, ahead_within}
+use Rattle.gr_base.specs.Decisions.{IsDecided, AreToldApart}
+use Rattle.gr_base.proofs.Deciding.{decided_by, decided_both, decided_number, behind_within, ahead_within}
 
 pub decided_term : {V : Type 0} → AreToldApart V → AreToldApart (Term V)
 decided_term {V} apart (name a) (name b) = decided_by (a ≡ b) (◌≡◌ {A = Term V} (name a) (name b)) (λ e. ap name e) (λ e. cc e) (decided_number a b)

@@ -6,7 +6,7 @@ use Rattle.std.proofs.lemmas.Option.{same_Some}
 use Rattle.gr_base.specs.Lists.{IsAmong, IsWithin, NoneTwice, Each, IsListing}
 use Rattle.gr_base.specs.Forests.{Forest, empty, tree}
 use Rattle.gr_base.proofs.ListLemmas.{same_head, same_tail, Each-at, Each-members, IsAmong-one_more, IsWithin-one_more, IsAmong-new_one}
-use Rattle.td_count.specs.Decisions.{IsDecided, AreToldApart}
+use Rattle.gr_base.specs.Decisions.{IsDecided, AreToldApart}
 
 pub of_dec : (A : Type 0) → Dec A → IsDecided A
 of_dec A (yes a) = inl a

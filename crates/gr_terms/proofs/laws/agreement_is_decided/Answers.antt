@@ -1,5 +1,5 @@
-use Rattle.td_count.proofs.Agreeing.{decided_slots, decided_linked, decided_name, decided_agrees}
-use Rattle.td_count.proofs.laws.agreement_is_decided.Goals as goal
+use Rattle.gr_terms.proofs.Agreeing.{decided_slots, decided_linked, decided_name, decided_agrees}
+use Rattle.gr_terms.proofs.laws.agreement_is_decided.Goals as goal
 
 pub returns : goal.returns
 returns g c = record {

@@ -81,6 +81,11 @@ pub Each-members : {A : Type 0} (P : A → Type 0) (xs : List A) → ((x : A) �
 Each-members P [] f = tt
 Each-members P (x ∷ xs) f = (f x (inl refl), Each-members P xs (λ y i. f y (inr i)))
 
+-- P holds of each element where it holds of what stands at each place
+pub Each-places : {A : Type 0} (P : A → Type 0) (xs : List A) (d : A) → ((k : ℕ) → k < length xs → P (get_or xs k d)) → Each P xs
+Each-places P [] d h = tt
+Each-places P (x ∷ xs) d h = (h 0 (omega arith), Each-places P xs d (λ k within. h (suc k) (omega arith)))
+
 -- what holds of each element of a list holds of those of its parts, and the other way round
 pub Each-left : {A : Type 0} (P : A → Type 0) (xs ys : List A) → Each P (xs ++ ys) → Each P xs
 Each-left P [] ys e = tt

@@ -1,14 +1,19 @@
 -- Lemmas on bags: what a pair put in changes, and that a bag is fixed by its members.
-use Rattle.std.specs.Prelude.{◌≡◌, ℕ, ◌<◌, List, [], ◌∷◌, ◌++◌, length, take, drop, slice_get, Some, ◌⊎◌, refl, Result, Ok, Err, OnErr}
+use Rattle.std.specs.Prelude.{◌≡◌, ℕ, ◌<◌, List, [], ◌∷◌, ◌++◌, length, take, drop, slice_get, Some, ◌⊎◌, refl, Result, Ok, Err, OnErr, MatchResult, ◌≤◌, ◌+◌}
 use Rattle.std.proofs.Common.{inl, inr, ap, sym, ◌∙◌, subst, get_or, arith}
 use Rattle.std.proofs.lemmas.Option.{slice_get-get_or, get_or_from_slice_get, slice_get_within}
-use Rattle.std.proofs.lemmas.List.{take-append-drop, append-nil}
-use Rattle.std.specs.List.Sorted.{IsPermutation}
-use Rattle.std.proofs.lemmas.List.Sorted.{IsPermutation-sym, IsPermutation-middle}
+use Rattle.std.proofs.lemmas.List.{take-append-drop, append-nil, get_or-take, get_or-drop, length-take-le, length-drop}
+use Rattle.std.specs.List.Sorted.{IsPermutation, IsSearchInRange, IsBinarySearchResult, IsNonDecreasingBy}
+use Rattle.std.specs.Ordering.{nat_cmp, ordering_index}
+use Rattle.std.proofs.lemmas.Bool.Decides.{nat_tests}
+use Rattle.std.proofs.lemmas.Cmp.{ranked}
+use Rattle.std.proofs.lemmas.List.Sorted.{IsPermutation-sym, IsPermutation-middle, IsNonDecreasingBy-from_default}
 use Rattle.gr_base.specs.Lists.{IsAmong, IsWithin, Each}
-use Rattle.gr_base.proofs.ListLemmas.{IsAmong-append, IsAmong-append_left, IsAmong-append_right, IsAmong-slice_get, Each-at}
-use Rattle.gr_base.proofs.RisingKeys.{above-drop, IsRising-middle, IsRising-front, IsRising-without, lower-take, IsRising-same, IsRising-unique}
+use Rattle.gr_base.proofs.ListLemmas.{IsAmong-append, IsAmong-append_left, IsAmong-append_right, IsAmong-slice_get, IsAmong-get_or, Each-at, Each-places}
+use Rattle.gr_base.proofs.RisingKeys.{IsRising-middle, IsRising-front, IsRising-without, lower-take, IsRising-same, IsRising-unique}
 use Rattle.gr_terms.specs.declared.Sym.{Sym}
+use Rattle.gr_terms.specs.declared.Term.{Term}
+use Rattle.gr_terms.specs.declared.Term.TheVariants.{Var}
 use Rattle.gr_terms.specs.Bags.{IsListed, HasAttribute, LacksAttribute, Puts, StandsAt, FitsAt}
 
 -- what is among the new list is what was put in or among the old one
@@ -46,19 +51,40 @@ IsListed-unique xs ys = IsRising-unique (λ p. p.0.0) xs ys
 pub IsListed-value : {X : Type 0} (pairs : List (Sym × X)) (attr : Sym) (v w : X) → IsListed pairs → IsAmong pairs (attr, v) → IsAmong pairs (attr, w) → v ≡ w
 IsListed-value pairs attr v w listed i j = ap (λ p. p.1) (IsRising-same (λ p. p.0.0) pairs (attr, v) (attr, w) listed i j refl)
 
--- the pair at a place of which the number of the attribute is given
-pub stands_at : {X : Type 0} (pairs : List (Sym × X)) (i : ℕ) (d : Sym × X) (attr : Sym) → i < length pairs → (get_or pairs i d).0.0 ≡ attr.0 → StandsAt pairs attr i
-stands_at {X} pairs i d attr within e =
-    let same : get_or pairs i d ≡ (attr, (get_or pairs i d).1) = λ k. (record { 0 = e k }, (get_or pairs i d).1) in
-    ((get_or pairs i d).1, slice_get-get_or pairs i d within ∙ ap Some same)
+-- a search among pairs by rising attribute finds the attribute, or the place where a pair with it would keep the order
+module _ (pairs : List (Sym × Term)) (attr : Sym) (listed : IsListed pairs) where
+  abbrev blank : Sym × Term
+  blank = (record { 0 = 0 }, Var 0)
 
--- all from a place on are higher where the one at that place is
-pub fits_at : {X : Type 0} (pairs : List (Sym × X)) (i : ℕ) (d : Sym × X) (attr : Sym) → IsListed pairs → i < length pairs → Each (λ p. p.0.0 < attr.0) (take i pairs) → attr.0 < (get_or pairs i d).0.0 → FitsAt pairs attr i
-fits_at pairs i d attr listed within lower above = record {
-  within = omega arith;
-  lower = lower;
-  higher = above-drop (λ p. p.0.0) pairs i attr.0 d listed within above;
-}
+  abbrev key_at : ℕ → ℕ
+  key_at i = (get_or pairs i blank).0.0
+
+  keys_rise : (i j : ℕ) → i < j → j < length pairs → key_at i < key_at j
+  keys_rise i j less within =
+      subst (λ x. x.0.0 < key_at j) (get_or-take j pairs i blank less)
+      (Each-at (λ x. x.0.0 < key_at j) (take j pairs) (get_or (take j pairs) i blank) (lower-take (λ x. x.0.0) pairs j blank listed within)
+      (IsAmong-get_or (take j pairs) i blank (omega (arith, length-take-le j pairs (omega arith)))))
+
+  comparisons_rise : IsNonDecreasingBy (λ pair. ordering_index (nat_cmp pair.0.0 attr.0)) pairs
+  comparisons_rise = IsNonDecreasingBy-from_default (λ pair. ordering_index (nat_cmp pair.0.0 attr.0)) pairs blank (λ i j le within.
+      let rise : key_at i ≤ key_at j = grind (arith, keys_rise i j, λ (same : i ≡ j). ap key_at same) in
+      grind (arith, nat_tests))
+
+  pub searched : (r : Result ℕ ℕ) → IsSearchInRange r (length pairs) → IsBinarySearchResult (λ pair. nat_cmp pair.0.0 attr.0) pairs r → MatchResult r (StandsAt pairs attr) (FitsAt pairs attr)
+  searched (Ok at) within equal =
+      let same : get_or pairs at blank ≡ (attr, (get_or pairs at blank).1) = λ k. (record { 0 = ranked _ attr.0 _ (sym (equal blank)) k }, (get_or pairs at blank).1) in
+      ((get_or pairs at blank).1, slice_get-get_or pairs at blank within ∙ ap Some same)
+  searched (Err at) within parted =
+      let lower : (k : ℕ) → k < at → key_at k < attr.0 = λ k less. ranked _ attr.0 _ (sym ((parted comparisons_rise).0 k blank (omega arith) less)) in
+      let higher : (k : ℕ) → at ≤ k → k < length pairs → attr.0 < key_at k = λ k le less. ranked _ attr.0 _ (sym ((parted comparisons_rise).1 k blank le less)) in
+      record {
+        within = within;
+        lower = Each-places (λ p. p.0.0 < attr.0) (take at pairs) blank (λ k less.
+            let below : k < at = omega (arith, length-take-le at pairs within) in
+            subst (λ x. x.0.0 < attr.0) (sym (get_or-take at pairs k blank below)) (lower k below));
+        higher = Each-places (λ p. attr.0 < p.0.0) (drop at pairs) blank (λ k less.
+            subst (λ x. attr.0 < x.0.0) (sym (get_or-drop at pairs k blank)) (higher (at + k) (omega arith) (omega (arith, length-drop at pairs))));
+      }
 
 -- where a pair fits, its attribute stands nowhere
 pub FitsAt-lacks : {X : Type 0} (pairs : List (Sym × X)) (attr : Sym) (place : ℕ) → FitsAt pairs attr place → LacksAttribute pairs attr

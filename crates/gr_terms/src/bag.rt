@@ -35,15 +35,7 @@ fn find(pairs: &[(Sym, Term)], attr: Sym) -> Result<usize, usize>
     requires { IsListed pairs.now }
     ensures { MatchResult result (StandsAt pairs.now attr) (FitsAt pairs.now attr) }
 {
-    for (place, pair) in pairs.iter().enumerate() {
-        if pair.0.0 > attr.0 {
-            return Err(place);
-        }
-        if pair.0.0 == attr.0 {
-            return Ok(place);
-        }
-    }
-    Err(pairs.len())
+    pairs.binary_search_by_key(&attr.0, |pair| pair.0.0)
 }
 
 impl Bag {

@@ -1,9 +1,10 @@
-use Rattle.std.proofs.Common.{arith}
-use Rattle.gr_terms.proofs.BagLemmas.{stands_at, fits_at}
+use Rattle.std.proofs.Common.{rules}
+use Rattle.std.proofs.lemmas.List.Sorted.{answers_always}
+use Rattle.gr_terms.proofs.BagLemmas.{searched}
 use Rattle.gr_terms.proofs.bag.find.Goals as goal
 
-pub returns-then-pair-attr : goal.returns-then-pair-attr
-returns-then-pair-attr c = fits_at c.args.pairs.now c.loop-place.place _ c.args.attr c.requires (omega arith) c.loop-place.invariant c.if-pair-attr.true
-
-pub returns-then-pair-attr-2 : goal.returns-then-pair-attr-2
-returns-then-pair-attr-2 c = stands_at c.args.pairs.now c.loop-place.place _ c.args.attr (omega arith) c.if-pair-attr-2.true
+pub returns : goal.returns
+returns c =
+    let facts = c.binary_search_by_key.ensures in
+    searched c.args.pairs.now c.args.attr c.requires c.binary_search_by_key.result facts.bound
+    (facts.position (λ pair. pair.0.0) (answers_always _ _ _ (λ f a r g called. search rules)))

@@ -65,7 +65,7 @@ fn say_head(
     ensures ok { OnOk result (facts.new ≡ facts.old ++ head_said here variable (head_of block.now)) }
     ensures err { OnErr result (AddsFront facts.old facts.new (head_said here variable (head_of block.now))) }
 {
-    facts.block(variable)?;
+    facts.state_block(variable)?;
     say_colour(facts, variable, block.colour)?;
     say_bag(facts, here, Place::Own(variable), &block.own)?;
     say_bag(facts, here, Place::Top(variable), &block.top)?;
@@ -88,9 +88,9 @@ fn say_colour(facts: &mut Facts, variable: Variable, colour: Option<Paint>) -> R
 {
     match colour {
         None => Ok(()),
-        Some(Paint::Black) => facts.coloured(variable, Colour::Black),
-        Some(Paint::White) => facts.coloured(variable, Colour::White),
-        Some(Paint::Red) => facts.coloured(variable, Colour::Red),
+        Some(Paint::Black) => facts.state_colour(variable, Colour::Black),
+        Some(Paint::White) => facts.state_colour(variable, Colour::White),
+        Some(Paint::Red) => facts.state_colour(variable, Colour::Red),
     }
 }
 
@@ -157,7 +157,7 @@ fn say_link(
     } else {
         Dominance::Next
     };
-    facts.related(left, how, node(here, at + 1, &kid.node.name))?;
+    facts.state_relation(left, how, node(here, at + 1, &kid.node.name))?;
     Ok(at + 1)
 }
 
@@ -171,13 +171,13 @@ fn say_relation(
     ensures err { OnErr result (facts.new ≡ facts.old) }
 {
     match how {
-        Relate::Parent => facts.related(left, Dominance::Parent, right),
-        Relate::Above => facts.related(left, Dominance::Above, right),
-        Relate::AboveOrSame => facts.related(left, Dominance::AboveOrSame, right),
-        Relate::Next => facts.related(left, Dominance::Next, right),
-        Relate::Left => facts.related(left, Dominance::Left, right),
-        Relate::LeftOrSame => facts.related(left, Dominance::LeftOrSame, right),
-        Relate::Same => facts.one_node(left, right),
+        Relate::Parent => facts.state_relation(left, Dominance::Parent, right),
+        Relate::Above => facts.state_relation(left, Dominance::Above, right),
+        Relate::AboveOrSame => facts.state_relation(left, Dominance::AboveOrSame, right),
+        Relate::Next => facts.state_relation(left, Dominance::Next, right),
+        Relate::Left => facts.state_relation(left, Dominance::Left, right),
+        Relate::LeftOrSame => facts.state_relation(left, Dominance::LeftOrSame, right),
+        Relate::Same => facts.state_one_node(left, right),
     }
 }
 
@@ -187,7 +187,7 @@ pub fn say_bag(facts: &mut Facts, here: u32, place: Place, bag: &Bag) -> Result<
     ensures err { OnErr result (AddsFront facts.old facts.new (bag_said here (slot_of place) bag.now)) }
 {
     for pair in bag.as_slice() {
-        facts.paired(place, pair.0, value(here, &pair.1))?;
+        facts.state_pair(place, pair.0, value(here, &pair.1))?;
     }
     Ok(())
 }

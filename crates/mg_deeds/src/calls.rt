@@ -13,7 +13,7 @@ pub fn say_imports(facts: &mut Facts, here: u32, there: u32, names: &[Sym]) -> R
     ensures err { OnErr result (AddsFront facts.old facts.new (map (import_said here there) names.now)) }
 {
     for name in names {
-        facts.identified(
+        facts.state_identity(
             in_call(here, Local::Name(name.0)),
             in_call(there, Local::Name(name.0)),
         )?;
@@ -34,7 +34,7 @@ pub fn say_dots(
     ensures err { OnErr result (AddsFront facts.old facts.new (map (dot_said bound here there) names.now)) }
 {
     for name in names {
-        facts.identified(
+        facts.state_identity(
             in_call(here, Local::Dotted(bound.0, name.0)),
             in_call(there, Local::Name(name.0)),
         )?;

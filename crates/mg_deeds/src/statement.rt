@@ -38,8 +38,8 @@ fn say_equation(facts: &mut Facts, here: u32, left: &Ref, right: &Side) -> Resul
 {
     let variable = named(here, left);
     match right {
-        Side::Ref(reference) => facts.identified(variable, named(here, reference)),
-        Side::Name(name) => facts.is_name(variable, *name),
+        Side::Ref(reference) => facts.state_identity(variable, named(here, reference)),
+        Side::Name(name) => facts.state_name(variable, *name),
     }
 }
 
@@ -73,7 +73,7 @@ fn say_literal(
     ensures err { OnErr result (facts.new ≡ facts.old) }
 {
     let args = values(alloc, here, literal.args.as_slice())?;
-    facts.says(
+    facts.state_literal(
         label(here, at, &literal.handle),
         value(here, &literal.pred),
         args.as_slice(),

@@ -85,6 +85,13 @@ pub record Keeps (old new : Numbered) : Type 0 where
   pub used : new.used ≡ old.used
   pub reads : all_said new.names new.facts ≡ all_said old.names old.facts
 
+-- one fact more was said behind the others, and nothing more was said
+abbrev pub States : Numbered → Numbered → Said → Type 0
+States old new fact = all_said new.names new.facts ≡ all_said old.names old.facts ++ fact ∷ []
+
+abbrev pub StatesNothing : Numbered → Numbered → Type 0
+StatesNothing old new = all_said new.names new.facts ≡ all_said old.names old.facts
+
 -- the variables and slots of the fact are among the first so many
 abbrev pub IsBelow : ℕ → Fact → Type 0
 IsBelow n (fact.Block x) = x < n

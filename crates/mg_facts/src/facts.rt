@@ -3,7 +3,7 @@ ghost use Rattle.std.specs.Prelude.{◌≡◌, ◌+◌, ◌*◌, ◌<◌, ◌≤
 ghost use Rattle.gr_terms.specs.Networks.{variable};
 ghost use Rattle.mg_facts.specs.Said.{own_of, top_of, bottom_of, block, related, one_node, identified, is_name, coloured, paired, says, slot_of, term_of};
 ghost use Rattle.mg_facts.specs.Meanings.{Clashes, IsDescriptionOf};
-ghost use Rattle.mg_facts.specs.Numbered.{Keeps, IsFresh, all_said, slot_variable, variable_in, named_slot, read_term, read_terms};
+ghost use Rattle.mg_facts.specs.Numbered.{Keeps, IsFresh, States, StatesNothing, slot_variable, variable_in, named_slot, read_term, read_terms};
 ghost use Rattle.gr_base.specs.Lists.{Each, gathered};
 ghost use Rattle.td_desc.specs.Conditions.{IsTermBelow};
 
@@ -63,77 +63,77 @@ impl Facts {
     }
 
     /// A node block stands for the variable.
-    pub fn block(&mut self, x: Variable) -> Result<(), Memory>
+    pub fn state_block(&mut self, x: Variable) -> Result<(), Memory>
         ensures ok { OnOk result (self.new ≡ self.old ++ block x ∷ []) }
         ensures err { OnErr result (self.new ≡ self.old) }
     {
-        let done = state_block(&mut self.stated, x);
+        let done = add_block(&mut self.stated, x);
         self.stated.forget();
         done
     }
 
     /// The nodes of two variables stand in the relation.
-    pub fn related(&mut self, x: Variable, how: Dominance, y: Variable) -> Result<(), Memory>
+    pub fn state_relation(&mut self, x: Variable, how: Dominance, y: Variable) -> Result<(), Memory>
         ensures ok { OnOk result (self.new ≡ self.old ++ related x how y ∷ []) }
         ensures err { OnErr result (self.new ≡ self.old) }
     {
-        let done = state_related(&mut self.stated, x, how, y);
+        let done = add_relation(&mut self.stated, x, how, y);
         self.stated.forget();
         done
     }
 
     /// The two are one node.
-    pub fn one_node(&mut self, x: Variable, y: Variable) -> Result<(), Memory>
+    pub fn state_one_node(&mut self, x: Variable, y: Variable) -> Result<(), Memory>
         ensures ok { OnOk result (self.new ≡ self.old ++ one_node x y ∷ []) }
         ensures err { OnErr result (self.new ≡ self.old) }
     {
-        let done = state_one_node(&mut self.stated, x, y);
+        let done = add_one_node(&mut self.stated, x, y);
         self.stated.forget();
         done
     }
 
     /// The two are one variable.
-    pub fn identified(&mut self, x: Variable, y: Variable) -> Result<(), Memory>
+    pub fn state_identity(&mut self, x: Variable, y: Variable) -> Result<(), Memory>
         ensures ok { OnOk result (self.new ≡ self.old ++ identified x y ∷ []) }
         ensures err { OnErr result (self.new ≡ self.old) }
     {
-        let done = state_identified(&mut self.stated, x, y);
+        let done = add_identity(&mut self.stated, x, y);
         self.stated.forget();
         done
     }
 
     /// The variable is the name.
-    pub fn is_name(&mut self, x: Variable, a: Sym) -> Result<(), Memory>
+    pub fn state_name(&mut self, x: Variable, a: Sym) -> Result<(), Memory>
         ensures ok { OnOk result (self.new ≡ self.old ++ is_name x a.0 ∷ []) }
         ensures err { OnErr result (self.new ≡ self.old) }
     {
-        let done = state_is_name(&mut self.stated, x, a);
+        let done = add_name(&mut self.stated, x, a);
         self.stated.forget();
         done
     }
 
     /// The node of the variable has the colour.
-    pub fn coloured(&mut self, x: Variable, c: Colour) -> Result<(), Memory>
+    pub fn state_colour(&mut self, x: Variable, c: Colour) -> Result<(), Memory>
         ensures ok { OnOk result (self.new ≡ self.old ++ coloured x c ∷ []) }
         ensures err { OnErr result (self.new ≡ self.old) }
     {
-        let done = state_coloured(&mut self.stated, x, c);
+        let done = add_colour(&mut self.stated, x, c);
         self.stated.forget();
         done
     }
 
     /// The pair stands at the place.
-    pub fn paired(&mut self, place: Place, attr: Sym, value: Value) -> Result<(), Memory>
+    pub fn state_pair(&mut self, place: Place, attr: Sym, value: Value) -> Result<(), Memory>
         ensures ok { OnOk result (self.new ≡ self.old ++ paired (slot_of place) attr.0 (term_of value) ∷ []) }
         ensures err { OnErr result (self.new ≡ self.old) }
     {
-        let done = state_paired(&mut self.stated, place, attr, value);
+        let done = add_pair(&mut self.stated, place, attr, value);
         self.stated.forget();
         done
     }
 
     /// The literal is said.
-    pub fn says(&mut self, handle: Value, pred: Value, args: &[Value]) -> Result<(), Memory>
+    pub fn state_literal(&mut self, handle: Value, pred: Value, args: &[Value]) -> Result<(), Memory>
         ensures ok { OnOk result (self.new ≡ self.old ++ says (record {
           handle = term_of handle;
           pred = term_of pred;
@@ -141,7 +141,7 @@ impl Facts {
         }) ∷ []) }
         ensures err { OnErr result (self.new ≡ self.old) }
     {
-        let done = state_says(&mut self.stated, handle, pred, args);
+        let done = add_literal(&mut self.stated, handle, pred, args);
         self.stated.forget();
         done
     }
@@ -157,25 +157,25 @@ impl Facts {
 }
 
 /// States that a node block stands for the variable.
-fn state_block(stated: &mut Stated, x: Variable) -> Result<(), Memory>
+fn add_block(stated: &mut Stated, x: Variable) -> Result<(), Memory>
     requires { stated.old.used ≡ length stated.old.names }
-    ensures ok { OnOk result (all_said stated.new.names stated.new.facts ≡ all_said stated.old.names stated.old.facts ++ block x ∷ []) }
-    ensures err { OnErr result (all_said stated.new.names stated.new.facts ≡ all_said stated.old.names stated.old.facts) }
+    ensures ok { OnOk result (States stated.old stated.new (block x)) }
+    ensures err { OnErr result (StatesNothing stated.old stated.new) }
 {
     let x = stated.number(x)?;
     stated.state(Fact::Block(x))
 }
 
 /// States a relation.
-fn state_related(
+fn add_relation(
     stated: &mut Stated,
     x: Variable,
     how: Dominance,
     y: Variable,
 ) -> Result<(), Memory>
     requires { stated.old.used ≡ length stated.old.names }
-    ensures ok { OnOk result (all_said stated.new.names stated.new.facts ≡ all_said stated.old.names stated.old.facts ++ related x how y ∷ []) }
-    ensures err { OnErr result (all_said stated.new.names stated.new.facts ≡ all_said stated.old.names stated.old.facts) }
+    ensures ok { OnOk result (States stated.old stated.new (related x how y)) }
+    ensures err { OnErr result (StatesNothing stated.old stated.new) }
 {
     let x = stated.number(x)?;
     let y = stated.number(y)?;
@@ -183,10 +183,10 @@ fn state_related(
 }
 
 /// States that the two are one node.
-fn state_one_node(stated: &mut Stated, x: Variable, y: Variable) -> Result<(), Memory>
+fn add_one_node(stated: &mut Stated, x: Variable, y: Variable) -> Result<(), Memory>
     requires { stated.old.used ≡ length stated.old.names }
-    ensures ok { OnOk result (all_said stated.new.names stated.new.facts ≡ all_said stated.old.names stated.old.facts ++ one_node x y ∷ []) }
-    ensures err { OnErr result (all_said stated.new.names stated.new.facts ≡ all_said stated.old.names stated.old.facts) }
+    ensures ok { OnOk result (States stated.old stated.new (one_node x y)) }
+    ensures err { OnErr result (StatesNothing stated.old stated.new) }
 {
     let x = stated.number(x)?;
     let y = stated.number(y)?;
@@ -194,10 +194,10 @@ fn state_one_node(stated: &mut Stated, x: Variable, y: Variable) -> Result<(), M
 }
 
 /// States that the two are one variable.
-fn state_identified(stated: &mut Stated, x: Variable, y: Variable) -> Result<(), Memory>
+fn add_identity(stated: &mut Stated, x: Variable, y: Variable) -> Result<(), Memory>
     requires { stated.old.used ≡ length stated.old.names }
-    ensures ok { OnOk result (all_said stated.new.names stated.new.facts ≡ all_said stated.old.names stated.old.facts ++ identified x y ∷ []) }
-    ensures err { OnErr result (all_said stated.new.names stated.new.facts ≡ all_said stated.old.names stated.old.facts) }
+    ensures ok { OnOk result (States stated.old stated.new (identified x y)) }
+    ensures err { OnErr result (StatesNothing stated.old stated.new) }
 {
     let x = stated.number(x)?;
     let y = stated.number(y)?;
@@ -205,30 +205,30 @@ fn state_identified(stated: &mut Stated, x: Variable, y: Variable) -> Result<(),
 }
 
 /// States that the variable is the name.
-fn state_is_name(stated: &mut Stated, x: Variable, a: Sym) -> Result<(), Memory>
+fn add_name(stated: &mut Stated, x: Variable, a: Sym) -> Result<(), Memory>
     requires { stated.old.used ≡ length stated.old.names }
-    ensures ok { OnOk result (all_said stated.new.names stated.new.facts ≡ all_said stated.old.names stated.old.facts ++ is_name x a.0 ∷ []) }
-    ensures err { OnErr result (all_said stated.new.names stated.new.facts ≡ all_said stated.old.names stated.old.facts) }
+    ensures ok { OnOk result (States stated.old stated.new (is_name x a.0)) }
+    ensures err { OnErr result (StatesNothing stated.old stated.new) }
 {
     let x = stated.number(x)?;
     stated.state(Fact::IsName(x, a))
 }
 
 /// States a colour.
-fn state_coloured(stated: &mut Stated, x: Variable, c: Colour) -> Result<(), Memory>
+fn add_colour(stated: &mut Stated, x: Variable, c: Colour) -> Result<(), Memory>
     requires { stated.old.used ≡ length stated.old.names }
-    ensures ok { OnOk result (all_said stated.new.names stated.new.facts ≡ all_said stated.old.names stated.old.facts ++ coloured x c ∷ []) }
-    ensures err { OnErr result (all_said stated.new.names stated.new.facts ≡ all_said stated.old.names stated.old.facts) }
+    ensures ok { OnOk result (States stated.old stated.new (coloured x c)) }
+    ensures err { OnErr result (StatesNothing stated.old stated.new) }
 {
     let x = stated.number(x)?;
     stated.state(Fact::Coloured(x, c))
 }
 
 /// States a pair.
-fn state_paired(stated: &mut Stated, place: Place, attr: Sym, value: Value) -> Result<(), Memory>
+fn add_pair(stated: &mut Stated, place: Place, attr: Sym, value: Value) -> Result<(), Memory>
     requires { stated.old.used ≡ length stated.old.names }
-    ensures ok { OnOk result (all_said stated.new.names stated.new.facts ≡ all_said stated.old.names stated.old.facts ++ paired (slot_of place) attr.0 (term_of value) ∷ []) }
-    ensures err { OnErr result (all_said stated.new.names stated.new.facts ≡ all_said stated.old.names stated.old.facts) }
+    ensures ok { OnOk result (States stated.old stated.new (paired (slot_of place) attr.0 (term_of value))) }
+    ensures err { OnErr result (StatesNothing stated.old stated.new) }
 {
     let slot = slot_at(stated, place)?;
     let value = term_at(stated, value)?;
@@ -236,10 +236,10 @@ fn state_paired(stated: &mut Stated, place: Place, attr: Sym, value: Value) -> R
 }
 
 /// States a literal.
-fn state_says(stated: &mut Stated, handle: Value, pred: Value, args: &[Value]) -> Result<(), Memory>
+fn add_literal(stated: &mut Stated, handle: Value, pred: Value, args: &[Value]) -> Result<(), Memory>
     requires { stated.old.used ≡ length stated.old.names }
-    ensures ok { OnOk result (all_said stated.new.names stated.new.facts ≡ all_said stated.old.names stated.old.facts ++ says (record { handle = term_of handle; pred = term_of pred; args = map term_of args.now }) ∷ []) }
-    ensures err { OnErr result (all_said stated.new.names stated.new.facts ≡ all_said stated.old.names stated.old.facts) }
+    ensures ok { OnOk result (States stated.old stated.new (says (record { handle = term_of handle; pred = term_of pred; args = map term_of args.now }))) }
+    ensures err { OnErr result (StatesNothing stated.old stated.new) }
 {
     let handle = term_at(stated, handle)?;
     let pred = term_at(stated, pred)?;

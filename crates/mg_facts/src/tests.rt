@@ -35,12 +35,12 @@ fn facts_are_described(rt: HostRuntime) -> Result<(), Fail> {
         at: 2,
         local: Local::Name(7),
     };
-    facts.block(x)?;
-    facts.paired(Place::Own(x), CAT, Value::Name(MARK))?;
-    facts.coloured(y, Colour::Black)?;
-    facts.related(x, Dominance::Above, z)?;
-    facts.identified(y, z)?;
-    facts.says(Value::Name(MARK), Value::Name(CAT), &[Value::Name(CAT)])?;
+    facts.state_block(x)?;
+    facts.state_pair(Place::Own(x), CAT, Value::Name(MARK))?;
+    facts.state_colour(y, Colour::Black)?;
+    facts.state_relation(x, Dominance::Above, z)?;
+    facts.state_identity(y, z)?;
+    facts.state_literal(Value::Name(MARK), Value::Name(CAT), &[Value::Name(CAT)])?;
     let Some(d) = facts.describe(rt.alloc())? else {
         assert!(rt; false);
         return Ok(());
@@ -62,17 +62,17 @@ fn facts_are_described(rt: HostRuntime) -> Result<(), Fail> {
     assert_eq!(rt; d.sem.len(), 1);
     assert_eq!(rt; d.network.len(), 5);
     // a second name for the category
-    facts.paired(Place::Own(x), CAT, Value::Name(CAT))?;
+    facts.state_pair(Place::Own(x), CAT, Value::Name(CAT))?;
     assert!(rt; facts.describe(rt.alloc())?.is_none());
-    facts.block(x)?;
+    facts.state_block(x)?;
     facts.keep(6);
     assert!(rt; facts.describe(rt.alloc())?.is_some());
     // a second colour
-    facts.coloured(z, Colour::White)?;
+    facts.state_colour(z, Colour::White)?;
     assert!(rt; facts.describe(rt.alloc())?.is_none());
     facts.keep(6);
     // a node that is a value
-    facts.paired(Place::Interface, CAT, Value::Variable(y))?;
+    facts.state_pair(Place::Interface, CAT, Value::Variable(y))?;
     assert!(rt; facts.describe(rt.alloc())?.is_none());
     Ok(())
 }

@@ -41,6 +41,13 @@ LedTo m old ts next outs new TooLarge = Ends m new false outs
 abbrev pub Stepped : List Item → Walker → ℕ → List Task → ℕ → Walker → Next → Type 0
 Stepped m old here ts next new n = (outs : List Outcome) → LeadsFrom m old here ts next outs → LedTo m old ts next outs new n
 
+-- a step of an errand, and one that does a task in front of it
+abbrev pub StepsOn : List Item → Walker → Errand → Walker → Next → Type 0
+StepsOn m old e new n = Stepped m old e.here (work_tasks e.work) e.behind new n
+
+abbrev pub DoesTask : List Item → Walker → Task → Errand → Walker → Next → Type 0
+DoesTask m old t e new n = Stepped m old e.here (t ∷ work_tasks e.work) e.behind new n
+
 -- An alternative was taken: the errand leads where the choice led, and is nearer to an end by two steps at least.
 abbrev pub Chose : List Item → Walker → ℕ → List Task → ℕ → Walker → Errand → Type 0
 Chose m old here ts next new e = (outs : List Outcome) → LeadsFrom m old here ts next outs → Goes m new e outs × (2 + left_for m new e ≤ left_of m old ts next)

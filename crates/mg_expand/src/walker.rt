@@ -9,10 +9,9 @@ ghost use Rattle.gr_terms.specs.declared.Sym.{Sym};
 ghost use Rattle.mg_expand.specs.declared.errand.Errand.{Errand};
 ghost use Rattle.mg_expand.specs.Walks.{a_call, a_choice, a_deed, imported, called, bound_to};
 ghost use Rattle.mg_expand.specs.Routes.{Outcome};
-ghost use Rattle.mg_expand.specs.Errands.{work_tasks};
 ghost use Rattle.std.specs.Prelude.{vec_len};
 ghost use Rattle.mg_expand.specs.Ways.{Stands, Gave, Underway};
-ghost use Rattle.mg_expand.specs.Walkers.{CanGo, Goes, Stepped, Ends, Keeps, Enters, Chose};
+ghost use Rattle.mg_expand.specs.Walkers.{CanGo, Goes, StepsOn, DoesTask, Ends, Keeps, Enters, Chose};
 
 use crate::errand::{Errand, Fork, Next, Work};
 use crate::exports::gather;
@@ -118,7 +117,7 @@ impl<'a> Walker<'a> {
 
     fn step(&mut self, resolved: &'a Resolved, errand: Errand<'a>) -> Result<Next<'a>, Memory>
         requires { CanGo resolved.now self.old errand }
-        ensures { IfOk result (λ next. Stepped resolved.now self.old errand.entry.here (work_tasks errand.entry.work) errand.entry.behind self.new next) }
+        ensures { IfOk result (λ next. StepsOn resolved.now self.old errand.entry self.new next) }
     {
         match errand.work {
             Work::Imports(names, body) => self.go_through_imports(resolved, errand, names, body),
@@ -140,7 +139,7 @@ impl<'a> Walker<'a> {
     ) -> Result<Next<'a>, Memory>
         requires can { CanGo resolved.now self.old errand }
         requires work { errand.work ≡ Work.Imports names body }
-        ensures { IfOk result (λ next. Stepped resolved.now self.old errand.entry.here (work_tasks errand.entry.work) errand.entry.behind self.new next) }
+        ensures { IfOk result (λ next. StepsOn resolved.now self.old errand.entry self.new next) }
     {
         let Some((name, rest)) = names.split_first() else {
             let next = self.choose(errand.here, body, errand.behind)?;
@@ -163,7 +162,7 @@ impl<'a> Walker<'a> {
     ) -> Result<Next<'a>, Memory>
         requires can { CanGo resolved.now self.old errand }
         requires work { errand.work ≡ Work.Statements list }
-        ensures { IfOk result (λ next. Stepped resolved.now self.old errand.entry.here (work_tasks errand.entry.work) errand.entry.behind self.new next) }
+        ensures { IfOk result (λ next. StepsOn resolved.now self.old errand.entry self.new next) }
     {
         let Some((statement, rest)) = list.split_first() else {
             if errand.behind == 0 {
@@ -198,7 +197,7 @@ impl<'a> Walker<'a> {
 
     fn import(&mut self, class: &'a Class, then: Errand<'a>) -> Result<Next<'a>, Memory>
         requires { self.old.items ≤ 4096 }
-        ensures { IfOk result (λ next. (m : List Item) (c : Sym) → class_of m c ≡ Some class.now → Stepped m self.old then.entry.here (a_call imported c ∷ work_tasks then.entry.work) then.entry.behind self.new next) }
+        ensures { IfOk result (λ next. (m : List Item) (c : Sym) → class_of m c ≡ Some class.now → DoesTask m self.old (a_call imported c) then.entry self.new next) }
     {
         let there = self.items;
         gather(&mut self.names, class.exports.as_slice())?;
@@ -214,7 +213,7 @@ impl<'a> Walker<'a> {
 
     fn call(&mut self, class: &'a Class, then: Errand<'a>) -> Result<Next<'a>, Memory>
         requires { self.old.items ≤ 4096 }
-        ensures { IfOk result (λ next. (m : List Item) (c : Sym) → class_of m c ≡ Some class.now → Stepped m self.old then.entry.here (a_call called c ∷ work_tasks then.entry.work) then.entry.behind self.new next) }
+        ensures { IfOk result (λ next. (m : List Item) (c : Sym) → class_of m c ≡ Some class.now → DoesTask m self.old (a_call called c) then.entry self.new next) }
     {
         let there = self.items;
         if there >= LIMIT {
@@ -232,7 +231,7 @@ impl<'a> Walker<'a> {
         then: Errand<'a>,
     ) -> Result<Next<'a>, Memory>
         requires { self.old.items ≤ 4096 }
-        ensures { IfOk result (λ next. (m : List Item) (c : Sym) → class_of m c ≡ Some class.now → Stepped m self.old then.entry.here (a_call (bound_to variable) c ∷ work_tasks then.entry.work) then.entry.behind self.new next) }
+        ensures { IfOk result (λ next. (m : List Item) (c : Sym) → class_of m c ≡ Some class.now → DoesTask m self.old (a_call (bound_to variable) c) then.entry self.new next) }
     {
         let there = self.items;
         if there >= LIMIT {
@@ -253,7 +252,7 @@ impl<'a> Walker<'a> {
 
     fn perform(&mut self, statement: &Statement, then: Errand<'a>) -> Result<Next<'a>, Memory>
         requires { self.old.items ≤ 4096 }
-        ensures { IfOk result (λ next. (m : List Item) (d : Deed) → deed_of statement.now ≡ Some d → Stepped m self.old then.entry.here (a_deed d ∷ work_tasks then.entry.work) then.entry.behind self.new next) }
+        ensures { IfOk result (λ next. (m : List Item) (d : Deed) → deed_of statement.now ≡ Some d → DoesTask m self.old (a_deed d) then.entry self.new next) }
     {
         let Some(count) = weight(statement, LIMIT - self.items) else {
             return Ok(Next::TooLarge);

@@ -1,5 +1,5 @@
 //! What the grammar sees of a token.
-ghost use Rattle.std.specs.Prelude.{◌≡◌, [], ◌∷◌};
+ghost use Rattle.std.specs.Prelude.{◌≡◌, ◌+◌, [], ◌∷◌};
 ghost use Rattle.gr_grammar.specs.declared.brackets.Turn.{Turn as Turned};
 ghost use Rattle.mg_reader.specs.Kinds.{high, kind_in, kind_number, low, not_of_width, of_width, sign_kind, signs, test, turn_of, word_kind, words};
 
@@ -166,64 +166,7 @@ impl Kind {
     pub fn number(self) -> u8
         ensures { result ≡ kind_number self }
     {
-        match self {
-            Kind::Below => 0,
-            Kind::BelowPlus => 1,
-            Kind::BelowStar => 2,
-            Kind::Next => 3,
-            Kind::NextPlus => 4,
-            Kind::NextStar => 5,
-            Kind::Equals => 6,
-            Kind::Greater => 7,
-            Kind::Less => 8,
-            Kind::Dots => 9,
-            Kind::DotsPlus => 10,
-            Kind::Dot => 11,
-            Kind::Commas => 12,
-            Kind::Comma => 13,
-            Kind::Semicolon => 14,
-            Kind::Colon => 15,
-            Kind::Bar => 16,
-            Kind::Bang => 17,
-            Kind::LeftParen => 18,
-            Kind::RightParen => 19,
-            Kind::LeftBracket => 20,
-            Kind::RightBracket => 21,
-            Kind::LeftBrace => 22,
-            Kind::RightBrace => 23,
-            Kind::Var => 24,
-            Kind::Str => 25,
-            Kind::Class => 26,
-            Kind::Import => 27,
-            Kind::Export => 28,
-            Kind::Declare => 29,
-            Kind::Value => 30,
-            Kind::Node => 31,
-            Kind::Domain => 32,
-            Kind::Property => 33,
-            Kind::Feature => 34,
-            Kind::Use => 35,
-            Kind::Anchor => 36,
-            Kind::Coanchor => 37,
-            Kind::Subst => 38,
-            Kind::Foot => 39,
-            Kind::Lex => 40,
-            Kind::Nadj => 41,
-            Kind::With => 42,
-            Kind::Dims => 43,
-            Kind::Syn => 44,
-            Kind::Sem => 45,
-            Kind::Iface => 46,
-            Kind::Black => 47,
-            Kind::White => 48,
-            Kind::Red => 49,
-            Kind::Top => 50,
-            Kind::Bot => 51,
-            Kind::Word => 52,
-            Kind::Color => 53,
-            Kind::Mark => 54,
-            Kind::Cat => 55,
-        }
+        self as u8
     }
 
     /// What a lexeme of the kind does to the brackets that are open.
@@ -390,39 +333,34 @@ impl Kind {
 }
 
 impl Class {
-    /// The number of the first kind of the class.
-    fn low(self) -> u8
-        ensures { result ≡ low self }
+    /// The first kind of the class, in their order.
+    fn first(self) -> Kind
+        ensures { kind_number result ≡ low self }
     {
         match self {
-            Class::Is(kind) => kind.number(),
-            Class::Operator => 0,
-            Class::Descent => 9,
-            Class::Name => 25,
-            Class::Word => 26,
-            Class::Reserved => 26,
-            Class::Plain => 36,
-            Class::Property => 26,
-            Class::Marker => 36,
-            Class::Paint => 47,
+            Class::Is(kind) => kind,
+            Class::Operator => Kind::Below,
+            Class::Descent => Kind::Dots,
+            Class::Name => Kind::Str,
+            Class::Word | Class::Reserved | Class::Property => Kind::Class,
+            Class::Plain | Class::Marker => Kind::Anchor,
+            Class::Paint => Kind::Black,
         }
     }
 
-    /// The number behind that of the last kind of the class.
-    fn high(self) -> u8
-        ensures { result ≡ high self }
+    /// The last kind of the class, in their order. All kinds between the two are of it.
+    fn last(self) -> Kind
+        ensures { kind_number result + 1 ≡ high self }
     {
         match self {
-            Class::Is(kind) => kind.number() + 1,
-            Class::Operator => 7,
-            Class::Descent => 11,
-            Class::Name => 56,
-            Class::Word => 56,
-            Class::Reserved => 36,
-            Class::Plain => 56,
-            Class::Property => 53,
-            Class::Marker => 42,
-            Class::Paint => 50,
+            Class::Is(kind) => kind,
+            Class::Operator => Kind::Equals,
+            Class::Descent => Kind::DotsPlus,
+            Class::Name | Class::Word | Class::Plain => Kind::Cat,
+            Class::Reserved => Kind::Use,
+            Class::Property => Kind::Word,
+            Class::Marker => Kind::Nadj,
+            Class::Paint => Kind::Red,
         }
     }
 
@@ -431,6 +369,6 @@ impl Class {
         ensures { result ≡ test self lexeme.now }
     {
         let number = lexeme.kind.number();
-        self.low() <= number && number < self.high()
+        self.first().number() <= number && number <= self.last().number()
     }
 }

@@ -1,2 +1,3 @@
 pub mod PreorderLemmas
 pub mod TreeNetworkLemmas
+pub mod FlatTreeLemmas

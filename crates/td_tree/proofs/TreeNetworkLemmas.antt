@@ -9,13 +9,10 @@ use Rattle.gr_base.proofs.ForestLemmas.{length-labels}
 use Rattle.gr_base.proofs.ListLemmas.{IsAmong-append, IsAmong-append_left, IsAmong-append_right, IsAmong-gathered, IsAmong-gathered_from}
 use Rattle.gr_terms.specs.Canonical.{Node, Decorated}
 use Rattle.gr_terms.specs.Networks.{Term, Assertion, entry, equate, link, AreLinked, AreLinkedSlots, HasValue, equated, shared, same, back, next, linked, same_slot, back_slot, next_slot}
+pub use Rattle.td_tree.specs.FlatTrees.{count_from}
 use Rattle.td_tree.specs.TreeNetworks.{Part, own_part, top_part, bottom_part, TreeSlot, at_node, at_interface, entries_at, node_network, tree_network}
 
 -- ---- lists gathered, and lists with numbers beside their elements
-
-abbrev pub count_from : {A : Type 0} → ℕ → List A → List (ℕ × A)
-count_from n [] = []
-count_from n (x ∷ xs) = (n, x) ∷ count_from (suc n) xs
 
 count_from-append : {A : Type 0} (n k : ℕ) (xs ys : List A) → k ≡ n + length xs → count_from n (xs ++ ys) ≡ count_from n xs ++ count_from k ys
 count_from-append n k [] ys e = ap (λ m. count_from m ys) (omega arith)

@@ -2,3 +2,4 @@ pub mod Trees
 pub mod Positions
 pub mod TreeViews
 pub mod TreeNetworks
+pub mod FlatTrees

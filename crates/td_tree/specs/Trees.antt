@@ -1,10 +1,12 @@
 -- The nodes of a tree as a list: in preorder, each with the number of its parent.
 use Rattle.std.specs.Prelude.{◌≡◌, ℕ, suc, ◌+◌, ◌<◌, ◌≤◌, List, [], ◌∷◌, ◌++◌, length, Bool, false, ◌==◌, if◌then◌else◌, ⊤, Option, Some, None}
 use Rattle.gr_base.specs.Forests.{Forest, empty, tree, IsOneTree, size}
+use Rattle.gr_base.specs.Lists.{Each}
 use Rattle.gr_terms.specs.Bags.{IsListed}
 use Rattle.gr_terms.specs.Canonical.{Node}
 use Rattle.gr_terms.specs.declared.Sym.{Sym}
 use Rattle.gr_terms.specs.declared.Term.{Term}
+use Rattle.td_tree.specs.declared.Tree.{Tree}
 use Rattle.td_tree.specs.declared.TreeNode.{TreeNode}
 
 -- what a bag is seen as
@@ -33,6 +35,11 @@ pub record IsListedNode (n : TreeNode) : Type 0 where
   pub own : IsListed n.own
   pub top : IsListed n.top
   pub bot : IsListed n.bot
+
+-- so has each bag of the tree
+pub record HasListedBags (t : Tree) : Type 0 where
+  pub nodes : Each IsListedNode t.nodes
+  pub iface : IsListed t.iface
 
 -- whether the node stands under node number `parent`
 abbrev pub is_parent : Option ℕ → ℕ → Bool

@@ -1,8 +1,12 @@
 //! Laws of trees laid out in preorder.
 ghost use Rattle.std.specs.Prelude.{◌≡◌, ℕ, ◌<◌, List, Option, Some, None, ◌↔◌, slice_get, length};
-ghost use Rattle.gr_base.specs.Forests.{Forest};
+ghost use Rattle.gr_base.specs.Forests.{Forest, map_forest};
 ghost use Rattle.gr_terms.specs.Canonical.{Node};
+ghost use Rattle.td_tree.specs.FlatTrees.{forest_in, forest_of, listed_network};
+ghost use Rattle.td_tree.specs.TreeNetworks.{tree_network};
+ghost use Rattle.td_tree.specs.TreeViews.{decorated_of, lists_of};
 ghost use Rattle.td_tree.specs.Trees.{BagPairs, AreTreeNodes, preorder};
+ghost use Rattle.td_tree.specs.declared.Tree.{Tree};
 ghost use Rattle.td_tree.specs.declared.TreeNode.{TreeNode};
 
 /// The first node of a tree alone has no parent, and each other node stands behind its parent.
@@ -17,4 +21,15 @@ pub fn the_first_alone_has_no_parent()
 /// The nodes of a tree in preorder fix the forest.
 pub fn nodes_fix_the_forest()
     ensures { (f g : Forest (Node BagPairs)) → preorder 0 None f ≡ preorder 0 None g → f ≡ g }
+{}
+
+/// The forest of a tree's nodes is the one that they are laid out from.
+pub fn nodes_have_their_forest()
+    ensures forest { (nodes : List TreeNode) (t : AreTreeNodes nodes) → forest_of nodes ≡ t.forest }
+    ensures lists { (nodes : List TreeNode) (t : AreTreeNodes nodes) → forest_in nodes ≡ map_forest lists_of t.forest }
+{}
+
+/// The list of a tree's nodes gives the tree's network.
+pub fn networks_are_listed()
+    ensures { (t : Tree) (nodes : AreTreeNodes t.nodes) → tree_network (decorated_of nodes.forest t) ≡ listed_network t }
 {}

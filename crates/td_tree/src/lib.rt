@@ -14,8 +14,11 @@
 //! - [`Tree::children`] gives the numbers of a node's children from left to right.
 //! - `specs/Positions` has the position of each node number, `specs/TreeViews` the decorated tree
 //!   that a tree stands for, and `specs/TreeNetworks` the network of its lists.
+//! - `specs/FlatTrees` has the same of the list of nodes alone: the forest that they are laid out from
+//!   (`forest_of`, and `forest_in` with the lists of the nodes) and the network (`listed_network`).
+//! - [`bags_are_listed`] tells of any tree that each of its bags has an attribute at most once.
 //! - [`laws`] says what follows: the first node alone has no parent, a parent stands before its
-//!   children, and the list of the nodes fixes the forest.
+//!   children, the list of the nodes fixes the forest, and it gives the forest and the network.
 #![tactic(auto)]
 
 ghost use Rattle.std.specs.Prelude.{◌≡◌, ◌<◌, ◌↔◌, IsTrue, length};
@@ -25,7 +28,10 @@ use gr_base::Items;
 use gr_terms::{Bag, Literals};
 use std::marker::Model;
 
+mod bags;
 pub mod laws;
+
+pub use bags::bags_are_listed;
 
 /// A node of a tree.
 #[derive(Drop)]

@@ -133,7 +133,12 @@ impl Facts {
     }
 
     /// The literal is said.
-    pub fn state_literal(&mut self, handle: Value, pred: Value, args: &[Value]) -> Result<(), Memory>
+    pub fn state_literal(
+        &mut self,
+        handle: Value,
+        pred: Value,
+        args: &[Value],
+    ) -> Result<(), Memory>
         ensures ok { OnOk result (self.new ≡ self.old ++ says (record {
           handle = term_of handle;
           pred = term_of pred;
@@ -167,12 +172,7 @@ fn add_block(stated: &mut Stated, x: Variable) -> Result<(), Memory>
 }
 
 /// States a relation.
-fn add_relation(
-    stated: &mut Stated,
-    x: Variable,
-    how: Dominance,
-    y: Variable,
-) -> Result<(), Memory>
+fn add_relation(stated: &mut Stated, x: Variable, how: Dominance, y: Variable) -> Result<(), Memory>
     requires { stated.old.used ≡ length stated.old.names }
     ensures ok { OnOk result (States stated.old stated.new (related x how y)) }
     ensures err { OnErr result (StatesNothing stated.old stated.new) }
@@ -236,7 +236,12 @@ fn add_pair(stated: &mut Stated, place: Place, attr: Sym, value: Value) -> Resul
 }
 
 /// States a literal.
-fn add_literal(stated: &mut Stated, handle: Value, pred: Value, args: &[Value]) -> Result<(), Memory>
+fn add_literal(
+    stated: &mut Stated,
+    handle: Value,
+    pred: Value,
+    args: &[Value],
+) -> Result<(), Memory>
     requires { stated.old.used ≡ length stated.old.names }
     ensures ok { OnOk result (States stated.old stated.new (says (record { handle = term_of handle; pred = term_of pred; args = map term_of args.now }))) }
     ensures err { OnErr result (StatesNothing stated.old stated.new) }

@@ -87,7 +87,7 @@ module _ (texts : List (List ℕ)) (once : NoneTwice texts) (first : Grows first
   abbrev text : ℕ → List ℕ
   text = text_in is.texts
 
-  pub source : Readable is.texts x
+  pub source : Readable is.texts x is.has.spells.form
   source = readable is.texts is.table is.tree x is.has is.writable short
 
   cat_is : text_in is.texts CAT ≡ codes "cat"
@@ -132,11 +132,11 @@ module _ (texts : List (List ℕ)) (once : NoneTwice texts) (first : Grows first
   )
 
   -- it obeys the rules
-  pub obeys : (t : Tree) → StandsForTree (text_in is.texts) texts source.form t → Each (Obeys texts) t.nodes
+  pub obeys : (t : Tree) → StandsForTree (text_in is.texts) texts is.has.spells.form t → Each (Obeys texts) t.nodes
   obeys t stands = subst (λ ns. Each (Obeys texts) ns) (sym stands.nodes.2)
-      (nodes_obey 0 None source.form.nodes stands.nodes.0 source.well (nodes_hold (text_in is.texts) texts once cat only source.form.nodes stands.nodes.0 source.ordered.nodes stands.nodes.1))
+      (nodes_obey 0 None is.has.spells.form.nodes stands.nodes.0 source.well (nodes_hold (text_in is.texts) texts once cat only is.has.spells.form.nodes stands.nodes.0 source.ordered.nodes stands.nodes.1))
 
   -- and it has the text
-  pub has_text : (t : Tree) → StandsForTree (text_in is.texts) texts source.form t → AreTreeNodes t.nodes → IsKnownTree t texts → HasText texts t x
+  pub has_text : (t : Tree) → StandsForTree (text_in is.texts) texts is.has.spells.form t → AreTreeNodes t.nodes → IsKnownTree t texts → HasText texts t x
   has_text t stands nodes known =
-      subst (λ z. HasText texts t z) (sym source.text_is) (closing (text_in is.texts) texts once cat only source.form t source.can.one source.ordered stands nodes (named_tree texts t known) (listed_tree texts t known))
+      subst (λ z. HasText texts t z) (sym source.text_is) (closing (text_in is.texts) texts once cat only is.has.spells.form t source.can.one source.ordered stands nodes (named_tree texts t known) (listed_tree texts t known))

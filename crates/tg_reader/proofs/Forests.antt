@@ -6,14 +6,16 @@ use Rattle.gr_base.specs.Lists.{Each, gathered}
 use Rattle.gr_base.specs.Forests.{Forest, empty, tree, beside, labels, size}
 use Rattle.gr_base.proofs.ForestLemmas.{AreAlike-beside, beside-empty, beside_assoc, labels-beside, size-alike, size-beside}
 use Rattle.gr_base.proofs.ListLemmas.{Each-left, Each-right, same_tail}
-use Rattle.gr_symbols.specs.Numbers.{Grows}
+use Rattle.gr_symbols.specs.Numbers.{Grows, with_texts}
 use Rattle.gr_symbols.proofs.NumberLemmas.{Grows-trans}
 use Rattle.gr_terms.specs.Canonical.{Node, Pairs}
 use Rattle.td_canon.specs.TreeText.{enclosed, node_text, tree_texts}
 use Rattle.td_tree.specs.Trees.{BagPairs, node_of, preorder}
 use Rattle.td_tree.specs.declared.TreeNode.{TreeNode}
 use Rattle.td_tree.proofs.PreorderLemmas.{length-preorder}
-use Rattle.tg_reader.specs.Reading.{AppendsForest, CanReadBehind, CanReadNode, CanReadNodes, CanReadOne, CanReadRow, Differs, IsNodeEnd, IsTreeEnd, Later, Lays, LaysOne, StandsForNode}
+use Rattle.tg_reader.proofs.Rows.{gathered-append, table_then}
+use Rattle.tg_reader.specs.Naming.{forest_names, node_names}
+use Rattle.tg_reader.specs.Reading.{AppendsForest, CanReadBehind, CanReadNode, CanReadNodes, CanReadOne, CanReadRow, Differs, IsNodeEnd, IsTreeEnd, Later, Lays, LaysOne, StandsForNode, Gets}
 use Rattle.td_canon.specs.Writing.{slots_of}
 use Rattle.tg_reader.proofs.Enclosed.{stops_differs, stops_tree}
 
@@ -79,6 +81,14 @@ module _ (text : ℕ → List ℕ) where
   join_nodes t empty = sym (append-nil t)
   join_nodes t (tree n kids more) = ap (λ zs. t ++ (32 ∷ zs)) (join_nodes (node_text text n ++ kids_text kids) more)
 
+  -- trees side by side name what the first ones name, and then what the others name
+  pub names-beside : (f g : Forest (Node Pairs)) → forest_names text (beside f g) ≡ forest_names text f ++ forest_names text g
+  names-beside f g = ap (gathered (node_names text)) (labels-beside f g) ∙ gathered-append (node_names text) (labels f) (labels g)
+
+  -- a node and those under it
+  pub names-tree : (n : Node Pairs) (kids : Forest (Node Pairs)) → forest_names text (tree n kids empty) ≡ node_names text n ++ forest_names text kids
+  names-tree n kids = ap (λ ls. node_names text n ++ gathered (node_names text) ls) (append-nil (labels kids))
+
   module _ (parent : Option ℕ) where
     pub AppendsForest-more : (ts : List (List ℕ)) (f g : Forest (Node Pairs)) (old mid new : List TreeNode) → AppendsForest text ts parent f old mid → AppendsForest text ts parent g mid new → AppendsForest text ts parent (beside f g) old new
     AppendsForest-more ts f g old mid new (p, alike, e) (q, like, h) = (beside p q, AreAlike-beside (StandsForNode text ts) f p g q alike like, appended parent old mid new p q e h)
@@ -88,29 +98,29 @@ module _ (text : ℕ → List ℕ) where
         ap (λ (z : List TreeNode). length z) e ∙ length-append old (preorder (length old) parent g) ∙ ap (λ k. length old + k) (length-preorder (length old) parent g ∙ sym (size-alike (StandsForNode text ts) f g alike))
 
     -- some trees were read, with what follows them left
-    pub record NodesSoFar (f : Forest (Node Pairs)) (rest : List ℕ) (start now : List TreeNode) (texts : List (List ℕ)) (bytes : List ℕ) : Type 0 where
+    pub record NodesSoFar (f : Forest (Node Pairs)) (rest : List ℕ) (start now : List TreeNode) (old texts : List (List ℕ)) (bytes : List ℕ) : Type 0 where
       pub done : Forest (Node Pairs)
       pub left : Forest (Node Pairs)
       pub split : f ≡ beside done left
       pub bytes_are : bytes ≡ nodes_row left ++ rest
-      pub appended : Later texts (λ ts. AppendsForest text ts parent done start now)
+      pub appended : Gets old texts (forest_names text done) (λ ts. AppendsForest text ts parent done start now)
 
-    pub no_nodes : (f : Forest (Node Pairs)) (rest : List ℕ) (start : List TreeNode) (texts : List (List ℕ)) (bytes : List ℕ) → bytes ≡ nodes_row f ++ rest → NodesSoFar f rest start start texts bytes
-    no_nodes f rest start texts bytes e = record { done = empty; left = f; split = refl; bytes_are = e; appended = λ ts grows. (empty, tt, sym (append-nil start)) }
+    pub no_nodes : (f : Forest (Node Pairs)) (rest : List ℕ) (start : List TreeNode) (texts : List (List ℕ)) (bytes : List ℕ) → bytes ≡ nodes_row f ++ rest → NodesSoFar f rest start start texts texts bytes
+    no_nodes f rest start texts bytes e = record { done = empty; left = f; split = refl; bytes_are = e; appended = record { table = refl; later = λ ts grows. (empty, tt, sym (append-nil start)) } }
 
     -- behind one more space one more tree stands
-    pub record NextNode (f : Forest (Node Pairs)) (rest : List ℕ) (start now : List TreeNode) (texts : List (List ℕ)) (mid : List ℕ) : Type 0 where
+    pub record NextNode (f : Forest (Node Pairs)) (rest : List ℕ) (start now : List TreeNode) (old texts : List (List ℕ)) (mid : List ℕ) : Type 0 where
       pub item : Forest (Node Pairs)
       pub left : Forest (Node Pairs)
       pub can : CanReadOne text (length now) item
       pub behind : mid ≡ join_with_byte 32 (tree_texts text item) ++ (nodes_row left ++ rest)
-      pub on : (new : List TreeNode) (more : List (List ℕ)) (bytes : List ℕ) → Grows texts more → bytes ≡ nodes_row left ++ rest → Later more (λ ts. AppendsForest text ts parent item now new) → NodesSoFar f rest start new more bytes
+      pub on : (new : List TreeNode) (more : List (List ℕ)) (bytes : List ℕ) → Grows texts more → bytes ≡ nodes_row left ++ rest → Gets texts more (forest_names text item) (λ ts. AppendsForest text ts parent item now new) → NodesSoFar f rest start new old more bytes
 
-    pub next_node : (f : Forest (Node Pairs)) (rest : List ℕ) (start now : List TreeNode) (texts : List (List ℕ)) (bytes mid : List ℕ) → CanReadBehind text (length start) f → Differs (32 ∷ []) rest → bytes ≡ 32 ∷ mid →
-        NodesSoFar f rest start now texts bytes → NextNode f rest start now texts mid
-    next_node f rest start now texts bytes mid can differs e so_far = by so_far.left so_far.split so_far.bytes_are
+    pub next_node : (f : Forest (Node Pairs)) (rest : List ℕ) (start now : List TreeNode) (old texts : List (List ℕ)) (bytes mid : List ℕ) → CanReadBehind text (length start) f → Differs (32 ∷ []) rest → bytes ≡ 32 ∷ mid →
+        NodesSoFar f rest start now old texts bytes → NextNode f rest start now old texts mid
+    next_node f rest start now old texts bytes mid can differs e so_far = by so_far.left so_far.split so_far.bytes_are
       where
-        by : (left : Forest (Node Pairs)) → f ≡ beside so_far.done left → bytes ≡ nodes_row left ++ rest → NextNode f rest start now texts mid
+        by : (left : Forest (Node Pairs)) → f ≡ beside so_far.done left → bytes ≡ nodes_row left ++ rest → NextNode f rest start now old texts mid
         by empty split are = absurd (differs mid (sym are ∙ e))
         by (tree n kids left) split are =
             let item = tree n kids empty in
@@ -118,7 +128,7 @@ module _ (text : ℕ → List ℕ) where
             let all : Each (CanReadNode text) (labels so_far.done ++ (n ∷ labels kids ++ labels left)) = subst (λ ls. Each (CanReadNode text) ls) (ap labels split ∙ labels-beside so_far.done (tree n kids left)) can.nodes in
             let here = Each-right (CanReadNode text) (labels so_far.done) (n ∷ labels kids ++ labels left) all in
             let sizes : size f ≡ size so_far.done + suc (size kids + size left) = ap size split ∙ size-beside so_far.done (tree n kids left) in
-            let count : length now ≡ length start + size so_far.done = AppendsForest-length texts so_far.done start now (so_far.appended texts ([], sym (append-nil texts))) in
+            let count : length now ≡ length start + size so_far.done = AppendsForest-length texts so_far.done start now (so_far.appended.later texts ([], sym (append-nil texts))) in
             record {
               item = item;
               left = left;
@@ -135,22 +145,25 @@ module _ (text : ℕ → List ℕ) where
                 left = left;
                 split = split ∙ sym (beside_assoc so_far.done item left);
                 bytes_are = new_are;
-                appended = λ ts g. AppendsForest-more ts so_far.done item start now new (so_far.appended ts (Grows-trans texts more ts grows g)) (step ts g);
+                appended = record {
+                  table = table_then old texts more (forest_names text so_far.done) (forest_names text item) so_far.appended.table step.table ∙ ap (with_texts old) (sym (names-beside so_far.done item));
+                  later = λ ts g. AppendsForest-more ts so_far.done item start now new (so_far.appended.later ts (Grows-trans texts more ts grows g)) (step.later ts g);
+                };
               };
             }
 
     -- where no space follows, all of them were read
-    pub record AllNodes (f : Forest (Node Pairs)) (rest : List ℕ) (start now : List TreeNode) (texts : List (List ℕ)) (bytes : List ℕ) : Type 0 where
+    pub record AllNodes (f : Forest (Node Pairs)) (rest : List ℕ) (start now : List TreeNode) (old texts : List (List ℕ)) (bytes : List ℕ) : Type 0 where
       pub bytes_are : bytes ≡ rest
-      pub appended : Later texts (λ ts. AppendsForest text ts parent f start now)
+      pub appended : Gets old texts (forest_names text f) (λ ts. AppendsForest text ts parent f start now)
 
-    pub all_nodes : (f : Forest (Node Pairs)) (rest : List ℕ) (start now : List TreeNode) (texts : List (List ℕ)) (bytes : List ℕ) → Differs (32 ∷ []) bytes → NodesSoFar f rest start now texts bytes → AllNodes f rest start now texts bytes
-    all_nodes f rest start now texts bytes differs so_far = by so_far.left so_far.split so_far.bytes_are
+    pub all_nodes : (f : Forest (Node Pairs)) (rest : List ℕ) (start now : List TreeNode) (old texts : List (List ℕ)) (bytes : List ℕ) → Differs (32 ∷ []) bytes → NodesSoFar f rest start now old texts bytes → AllNodes f rest start now old texts bytes
+    all_nodes f rest start now old texts bytes differs so_far = by so_far.left so_far.split so_far.bytes_are
       where
-        by : (left : Forest (Node Pairs)) → f ≡ beside so_far.done left → bytes ≡ nodes_row left ++ rest → AllNodes f rest start now texts bytes
+        by : (left : Forest (Node Pairs)) → f ≡ beside so_far.done left → bytes ≡ nodes_row left ++ rest → AllNodes f rest start now old texts bytes
         by empty split are = record {
           bytes_are = are;
-          appended = λ ts g. subst (λ h. AppendsForest text ts parent h start now) (sym (split ∙ beside-empty so_far.done)) (so_far.appended ts g);
+          appended = subst (λ h. Gets old texts (forest_names text h) (λ ts. AppendsForest text ts parent h start now)) (sym (split ∙ beside-empty so_far.done)) so_far.appended;
         }
         by (tree n kids left) split are = absurd (differs ((node_text text n ++ kids_text kids) ++ (nodes_row left ++ rest)) (are ∙ ap (λ zs. 32 ∷ zs) (append_assoc (node_text text n ++ kids_text kids) (nodes_row left) rest)))
 

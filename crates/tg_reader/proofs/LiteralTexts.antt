@@ -26,13 +26,10 @@ module _ (text : ℕ → List ℕ) where
   no_arguments [] mid rest can e = record { none = refl; same = same_tail 41 41 mid rest e }
   no_arguments (v ∷ vs) mid rest can e =
       absurd (begins_not text v 41 mid (more ++ (41 ∷ [] ++ rest)) can.0 refl (λ f. absurd (omega (arith, f))) (λ f. absurd (omega (arith, f)))
-      (e ∙ append_assoc (arguments_text (v ∷ vs)) (41 ∷ []) rest ∙ ap (λ zs. zs ++ (41 ∷ [] ++ rest)) (join_row (label_text text) 32 nothing v vs) ∙ append_assoc (label_text text v) more (41 ∷ [] ++ rest)))
+      (e ∙ append_assoc (arguments_text (v ∷ vs)) (41 ∷ []) rest ∙ ap (λ zs. zs ++ (41 ∷ [] ++ rest)) (join_row (label_text text) 32 v vs) ∙ append_assoc (label_text text v) more (41 ∷ [] ++ rest)))
     where
-      nothing : List (List ℕ) → Label → ℕ → ℕ → Type 0
-      nothing texts w i j = ⊥
-
       more : List ℕ
-      more = row (label_text text) 32 nothing vs
+      more = row (label_text text) 32 vs
 
   -- and else there are some
   pub record SomeArguments (vs : List Label) (old rest : List ℕ) : Type 0 where

@@ -8,6 +8,8 @@ use Rattle.gr_terms.specs.Canonical.{Label, Node, Pairs, category, properties}
 use Rattle.gr_terms.specs.declared.Term.{Term}
 use Rattle.td_canon.specs.TreeText.{category_text, enclosed, node_text, pair_texts}
 use Rattle.td_tree.specs.Trees.{BagPairs}
+use Rattle.gr_base.specs.Lists.{gathered}
+use Rattle.tg_reader.specs.Naming.{label_names}
 use Rattle.tg_reader.specs.Reading.{CanReadCategory, Differs, Ends, IsClosing, IsKnownPair, IsKnownTerm, IsNodeEnd, StandsForCategory, is_of}
 use Rattle.tg_reader.specs.declared.reader.Run.TheVariants.{Word}
 use Rattle.tg_reader.specs.Writable.{IsName}
@@ -32,8 +34,8 @@ known_category texts value first known = known_pair texts (record { 0 = 0 }) val
 
 -- where `-` is taken there is no category
 pub no_category : (text : ℕ → List ℕ) (vs : List Label) (all after rest : List ℕ) (bag : BagPairs) → CanReadCategory text vs → bag ≡ [] → all ≡ codes "-" ++ after → all ≡ category_text text vs ++ rest
-    → (after ≡ rest) × ((later : List (List ℕ)) → StandsForCategory text later vs bag)
-no_category text [] all after rest bag can none ate e = (same_tail 45 45 after rest (sym ate ∙ e), λ later. none)
+    → (after ≡ rest) × ((later : List (List ℕ)) → StandsForCategory text later vs bag) × (gathered (label_names text) vs ≡ [])
+no_category text [] all after rest bag can none ate e = (same_tail 45 45 after rest (sym ate ∙ e), λ later. none, refl)
 no_category text (v ∷ []) all after rest bag can none ate e = absurd (begins_not text v 45 after rest can refl (λ k. omega (arith, k)) (λ k. omega (arith, k)) (sym ate ∙ e))
 no_category text (v ∷ w ∷ vs) all after rest bag can none ate e = absurd can
 

@@ -176,14 +176,14 @@ module _ (old : List (List ℕ)) (table : IsTable old) (met : List ℕ) (few : s
 pub record IsWell (text : ℕ → List ℕ) (n : Node Pairs) : Type 0 where
   pub own : Each (StandsWell text) n.own
 
-pub record Readable (old : List (List ℕ)) (x : List ℕ) : Type 0 where
-  pub form : Decorated Pairs Label
+-- its form undoes its text
+pub record Readable (old : List (List ℕ)) (x : List ℕ) (form : Decorated Pairs Label) : Type 0 where
   pub text_is : x ≡ decorated_text (text_in old) form
   pub can : CanReadTree (text_in old) form
   pub ordered : IsOrderedForm (text_in old) form
   pub well : Each (IsWell (text_in old)) (labels form.nodes)
 
-pub readable : (old : List (List ℕ)) → IsTable old → (t : Tree) (x : List ℕ) → HasText old t x → IsWritableTree old t → length x ≤ 1048576 → Readable old x
+pub readable : (old : List (List ℕ)) → IsTable old → (t : Tree) (x : List ℕ) → (has : HasText old t x) → IsWritableTree old t → length x ≤ 1048576 → Readable old x has.spells.form
 readable old table t x has writable short =
     let f = has.nodes.forest in
     let d = decorated_of f t in
@@ -199,8 +199,7 @@ readable old table t x has writable short =
     let few : suc (length met) < 10 ^ 9 = omega (arith, short, long, walk, walk_length text (form_of text (label_in met) d), length-meet_all [] (tree_terms text d)) in
     let good = good_nodes old table met few 0 None f (subst (λ ns. Each (IsWritableNode old) ns) has.nodes.laid writable.nodes) in
     let sizes : length t.nodes ≡ size f = ap (λ (z : List TreeNode). length z) has.nodes.laid ∙ length-preorder 0 None f in
-    record {
-      form = form_of text (label_in met) d;
+    subst (λ c. Readable old x c) (sym same) (record {
       text_is = text_is;
       can = record {
         one = one-map (form_node text (label_in met)) (map_forest lists_of f) (one-map lists_of f has.nodes.one);
@@ -211,7 +210,7 @@ readable old table t x has writable short =
       };
       ordered = record { nodes = ordered_nodes text (tree_network d) canonical.label _ _ canonical.nodes; interface = canonical.interface.order; numbers = canonical.order };
       well = well_all (labels (map_forest (form_node text (label_in met)) (map_forest lists_of f))) met few good;
-    }
+    })
   where
     well_all : (ns : List (Node Pairs)) (met : List ℕ) (few : suc (length met) < 10 ^ 9) → Each (IsGoodNode old table met few) ns → Each (IsWell (text_in old)) ns
     well_all [] met few good = tt

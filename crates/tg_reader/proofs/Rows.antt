@@ -4,8 +4,9 @@ use Rattle.std.specs.List.{join_with_byte}
 use Rattle.std.proofs.Common.{ap, sym, ◌∙◌, subst, append_assoc, append-nil}
 use Rattle.gr_base.specs.Lists.{Each, gathered}
 use Rattle.gr_base.proofs.ListLemmas.{Each-right, same_tail}
-use Rattle.gr_symbols.specs.Numbers.{Grows}
-use Rattle.tg_reader.specs.Reading.{Differs, EachOfSome, Ends, InTurn, Later, is_of}
+use Rattle.gr_symbols.specs.Numbers.{Grows, with_texts}
+use Rattle.gr_symbols.proofs.NumberLemmas.{with_texts-append}
+use Rattle.tg_reader.specs.Reading.{Differs, EachOfSome, Ends, Gets, InTurn, Later, is_of}
 use Rattle.tg_reader.specs.declared.reader.Run.{Run}
 use Rattle.tg_reader.proofs.Steps.{later}
 
@@ -13,7 +14,16 @@ pub InTurn-more : {V S : Type 0} (R : V → S → S → Type 0) (vs : List V) (v
 InTurn-more R [] v old now new turn step = (new, subst (λ s. R v s new) turn step, refl)
 InTurn-more R (w ∷ vs) v old now new turn step = (turn.0, turn.1, InTurn-more R vs v turn.0 now new turn.2 step)
 
-module _ {V S : Type 0} (print : V → List ℕ) (separator : ℕ) (R : List (List ℕ) → V → S → S → Type 0) where
+-- the names of things one after another are those of the first ones and then those of the others
+pub gathered-append : {A B : Type 0} (f : A → List B) (xs ys : List A) → gathered f (xs ++ ys) ≡ gathered f xs ++ gathered f ys
+gathered-append f [] ys = refl
+gathered-append f (x ∷ xs) ys = ap (λ zs. f x ++ zs) (gathered-append f xs ys) ∙ sym (append_assoc (f x) (gathered f xs) (gathered f ys))
+
+-- a table that got names twice
+pub table_then : (old mid new ns ms : List (List ℕ)) → mid ≡ with_texts old ns → new ≡ with_texts mid ms → new ≡ with_texts old (ns ++ ms)
+table_then old mid new ns ms e h = h ∙ ap (λ z. with_texts z ms) e ∙ sym (with_texts-append old ns ms)
+
+module _ {V : Type 0} (print : V → List ℕ) (separator : ℕ) where
   -- each thing behind the byte
   abbrev pub row : List V → List ℕ
   row vs = gathered (λ v. separator ∷ print v) vs
@@ -26,59 +36,66 @@ module _ {V S : Type 0} (print : V → List ℕ) (separator : ℕ) (R : List (Li
   ends_row run [] rest h end = end
   ends_row run (v ∷ vs) rest h end = h
 
+-- what each thing names, and what it is read as
+module _ {V S : Type 0} (print : V → List ℕ) (separator : ℕ) (names : V → List (List ℕ)) (R : List (List ℕ) → V → S → S → Type 0) where
   -- some of them were read, with what follows them left
-  pub record SoFar (vs : List V) (rest : List ℕ) (start now : S) (texts : List (List ℕ)) (bytes : List ℕ) : Type 0 where
+  pub record SoFar (vs : List V) (rest : List ℕ) (start now : S) (old texts : List (List ℕ)) (bytes : List ℕ) : Type 0 where
     pub done : List V
     pub left : List V
     pub split : vs ≡ done ++ left
-    pub bytes_are : bytes ≡ row left ++ rest
-    pub turns : Later texts (λ ts. InTurn (R ts) done start now)
+    pub bytes_are : bytes ≡ row print separator left ++ rest
+    pub turns : Gets old texts (gathered names done) (λ ts. InTurn (R ts) done start now)
 
-  pub none_yet : (vs : List V) (rest : List ℕ) (start : S) (texts : List (List ℕ)) (bytes : List ℕ) → bytes ≡ row vs ++ rest → SoFar vs rest start start texts bytes
-  none_yet vs rest start texts bytes e = record { done = []; left = vs; split = refl; bytes_are = e; turns = λ ts grows. refl }
+  pub none_yet : (vs : List V) (rest : List ℕ) (start : S) (texts : List (List ℕ)) (bytes : List ℕ) → bytes ≡ row print separator vs ++ rest → SoFar vs rest start start texts texts bytes
+  none_yet vs rest start texts bytes e = record { done = []; left = vs; split = refl; bytes_are = e; turns = record { table = refl; later = λ ts grows. refl } }
 
   -- behind one more byte one more thing stands
-  pub record Next (Can : V → Type 0) (vs : List V) (rest : List ℕ) (start now : S) (texts : List (List ℕ)) (mid : List ℕ) : Type 0 where
+  pub record Next (Can : V → Type 0) (vs : List V) (rest : List ℕ) (start now : S) (old texts : List (List ℕ)) (mid : List ℕ) : Type 0 where
     pub item : V
     pub left : List V
     pub can : Can item
-    pub behind : mid ≡ print item ++ (row left ++ rest)
-    pub on : (new : S) (more : List (List ℕ)) (bytes : List ℕ) → Grows texts more → bytes ≡ row left ++ rest → Later more (λ ts. R ts item now new) → SoFar vs rest start new more bytes
+    pub behind : mid ≡ print item ++ (row print separator left ++ rest)
+    pub on : (new : S) (more : List (List ℕ)) (bytes : List ℕ) → Grows texts more → bytes ≡ row print separator left ++ rest → Gets texts more (names item) (λ ts. R ts item now new) → SoFar vs rest start new old more bytes
 
-  pub next : (Can : V → Type 0) (vs : List V) (rest : List ℕ) (start now : S) (texts : List (List ℕ)) (bytes mid : List ℕ) → Each Can vs → Differs (separator ∷ []) rest → bytes ≡ separator ∷ mid →
-      SoFar vs rest start now texts bytes → Next Can vs rest start now texts mid
-  next Can vs rest start now texts bytes mid can differs e so_far = by so_far.left so_far.split so_far.bytes_are
+  pub next : (Can : V → Type 0) (vs : List V) (rest : List ℕ) (start now : S) (old texts : List (List ℕ)) (bytes mid : List ℕ) → Each Can vs → Differs (separator ∷ []) rest → bytes ≡ separator ∷ mid →
+      SoFar vs rest start now old texts bytes → Next Can vs rest start now old texts mid
+  next Can vs rest start now old texts bytes mid can differs e so_far = by so_far.left so_far.split so_far.bytes_are
     where
-      by : (left : List V) → vs ≡ so_far.done ++ left → bytes ≡ row left ++ rest → Next Can vs rest start now texts mid
+      by : (left : List V) → vs ≡ so_far.done ++ left → bytes ≡ row print separator left ++ rest → Next Can vs rest start now old texts mid
       by [] split are = absurd (differs mid (sym are ∙ e))
       by (v ∷ left) split are = record {
         item = v;
         left = left;
         can = (Each-right Can so_far.done (v ∷ left) (subst (λ zs. Each Can zs) split can)).0;
-        behind = same_tail separator separator mid (print v ++ (row left ++ rest)) (sym e ∙ are ∙ ap (λ zs. separator ∷ zs) (append_assoc (print v) (row left) rest));
+        behind = same_tail separator separator mid (print v ++ (row print separator left ++ rest)) (sym e ∙ are ∙ ap (λ zs. separator ∷ zs) (append_assoc (print v) (row print separator left) rest));
         on = λ new more bytes grows new_are step. record {
           done = so_far.done ++ v ∷ [];
           left = left;
           split = split ∙ sym (append_assoc so_far.done (v ∷ []) left);
           bytes_are = new_are;
-          turns = λ ts g. InTurn-more (R ts) so_far.done v start now new (later texts more (λ ts. InTurn (R ts) so_far.done start now) grows so_far.turns ts g) (step ts g);
+          turns = record {
+            table = table_then old texts more (gathered names so_far.done) (names v) so_far.turns.table step.table
+                ∙ ap (λ zs. with_texts old (gathered names so_far.done ++ zs)) (sym (append-nil (names v)))
+                ∙ ap (with_texts old) (sym (gathered-append names so_far.done (v ∷ [])));
+            later = λ ts g. InTurn-more (R ts) so_far.done v start now new (later texts more (λ ts. InTurn (R ts) so_far.done start now) grows so_far.turns.later ts g) (step.later ts g);
+          };
         };
       }
 
   -- where the byte does not follow, all of them were read
-  pub record All (vs : List V) (rest : List ℕ) (start now : S) (texts : List (List ℕ)) (bytes : List ℕ) : Type 0 where
+  pub record All (vs : List V) (rest : List ℕ) (start now : S) (old texts : List (List ℕ)) (bytes : List ℕ) : Type 0 where
     pub bytes_are : bytes ≡ rest
-    pub turns : Later texts (λ ts. InTurn (R ts) vs start now)
+    pub turns : Gets old texts (gathered names vs) (λ ts. InTurn (R ts) vs start now)
 
-  pub all : (vs : List V) (rest : List ℕ) (start now : S) (texts : List (List ℕ)) (bytes : List ℕ) → Differs (separator ∷ []) bytes → SoFar vs rest start now texts bytes → All vs rest start now texts bytes
-  all vs rest start now texts bytes differs so_far = by so_far.left so_far.split so_far.bytes_are
+  pub all : (vs : List V) (rest : List ℕ) (start now : S) (old texts : List (List ℕ)) (bytes : List ℕ) → Differs (separator ∷ []) bytes → SoFar vs rest start now old texts bytes → All vs rest start now old texts bytes
+  all vs rest start now old texts bytes differs so_far = by so_far.left so_far.split so_far.bytes_are
     where
-      by : (left : List V) → vs ≡ so_far.done ++ left → bytes ≡ row left ++ rest → All vs rest start now texts bytes
+      by : (left : List V) → vs ≡ so_far.done ++ left → bytes ≡ row print separator left ++ rest → All vs rest start now old texts bytes
       by [] split are = record {
         bytes_are = are;
-        turns = λ ts g. subst (λ zs. InTurn (R ts) zs start now) (sym (split ∙ append-nil so_far.done)) (so_far.turns ts g);
+        turns = subst (λ zs. Gets old texts (gathered names zs) (λ ts. InTurn (R ts) zs start now)) (sym (split ∙ append-nil so_far.done)) so_far.turns;
       }
-      by (v ∷ left) split are = absurd (differs (print v ++ (row left ++ rest)) (are ∙ ap (λ zs. separator ∷ zs) (append_assoc (print v) (row left) rest)))
+      by (v ∷ left) split are = absurd (differs (print v ++ (row print separator left ++ rest)) (are ∙ ap (λ zs. separator ∷ zs) (append_assoc (print v) (row print separator left) rest)))
 
   -- a row without its first byte
   pub record First (Can : V → Type 0) (vs : List V) : Type 0 where
@@ -87,7 +104,7 @@ module _ {V S : Type 0} (print : V → List ℕ) (separator : ℕ) (R : List (Li
     pub is : vs ≡ first ∷ more
     pub can : Can first
     pub can_more : Each Can more
-    pub joined : (rest : List ℕ) → join_with_byte separator (map print vs) ++ rest ≡ print first ++ (row more ++ rest)
+    pub joined : (rest : List ℕ) → join_with_byte separator (map print vs) ++ rest ≡ print first ++ (row print separator more ++ rest)
 
   pub first_of : (Can : V → Type 0) (vs : List V) → EachOfSome Can vs → First Can vs
   first_of Can [] can = absurd can
@@ -97,9 +114,13 @@ module _ {V S : Type 0} (print : V → List ℕ) (separator : ℕ) (R : List (Li
     is = refl;
     can = can.0;
     can_more = can.1;
-    joined = λ rest. ap (λ zs. zs ++ rest) (join_row v vs) ∙ append_assoc (print v) (row vs) rest;
+    joined = λ rest. ap (λ zs. zs ++ rest) (join_row print separator v vs) ∙ append_assoc (print v) (row print separator vs) rest;
   }
 
   -- with the first one, all were read
-  pub with_first : (Can : V → Type 0) (vs : List V) (f : First Can vs) (start mid now : S) (ts : List (List ℕ)) → R ts f.first start mid → InTurn (R ts) f.more mid now → InTurn (R ts) vs start now
-  with_first Can vs f start mid now ts step turns = subst (λ zs. InTurn (R ts) zs start now) (sym f.is) (mid, step, turns)
+  pub with_first : (Can : V → Type 0) (vs : List V) (f : First Can vs) (start mid now : S) (old texts new : List (List ℕ)) → Grows texts new → Gets old texts (names f.first) (λ ts. R ts f.first start mid) →
+      Gets texts new (gathered names f.more) (λ ts. InTurn (R ts) f.more mid now) → Gets old new (gathered names vs) (λ ts. InTurn (R ts) vs start now)
+  with_first Can vs f start mid now old texts new grows step turns = subst (λ zs. Gets old new (gathered names zs) (λ ts. InTurn (R ts) zs start now)) (sym f.is) (record {
+    table = table_then old texts new (names f.first) (gathered names f.more) step.table turns.table;
+    later = λ ts g. (mid, later texts new (λ ts. R ts f.first start mid) grows step.later ts g, turns.later ts g);
+  })

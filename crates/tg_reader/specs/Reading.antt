@@ -3,7 +3,7 @@ use Rattle.std.specs.Prelude.{◌≡◌, ◌≢◌, ℕ, ◌+◌, ◌<◌, ◌�
 use Rattle.std.specs.Str.{IsUtf8}
 use Rattle.gr_base.specs.Forests.{Forest, empty, labels, AreAlike, IsOneTree, size}
 use Rattle.gr_base.specs.Lists.{Each}
-use Rattle.gr_symbols.specs.Numbers.{Grows, Names}
+use Rattle.gr_symbols.specs.Numbers.{Grows, Names, with_texts}
 use Rattle.gr_terms.specs.Bags.{HasAttribute, IsListed, LacksAttribute, Puts}
 use Rattle.gr_terms.specs.Canonical as canonical
 use Rattle.gr_terms.specs.Canonical.{Decorated, Label, Node, Pairs, named, numbered, category, properties}
@@ -74,6 +74,11 @@ pub record IsValuesEnd (text : List ℕ) : Type 0 where
 -- it holds of the table of texts, and of each that begins with it
 abbrev pub Later : List (List ℕ) → (List (List ℕ) → Type 0) → Type 0
 Later texts P = (later : List (List ℕ)) → Grows texts later → P later
+
+-- the table got these texts, one after another, and then it holds of the table and of each that begins with it
+pub record Gets (old new : List (List ℕ)) (names : List (List ℕ)) (P : List (List ℕ) → Type 0) : Type 0 where
+  pub table : new ≡ with_texts old names
+  pub later : Later new P
 
 -- bytes were taken from the front, and at most as many texts are new
 pub record Passes (old new : List (List ℕ)) (before after : List ℕ) : Type 0 where

@@ -30,6 +30,7 @@ ghost use Rattle.std.specs.Prelude.{◌≡◌, ◌+◌, ◌≤◌, length, IfOk,
 ghost use Rattle.gr_base.specs.Lists.{NoneTwice};
 ghost use Rattle.gr_symbols.specs.Numbers.{Grows, first_texts};
 ghost use Rattle.td_canon.specs.CanonicalTexts.{HasText};
+ghost use Rattle.tg_reader.specs.Naming.{PutsTreeNames};
 ghost use Rattle.tg_reader.specs.Writable.{IsTreeText, IsWritableTree};
 
 use crate::reader::{Reader, Stop};
@@ -61,6 +62,7 @@ pub fn read_tree(alloc: Global, text: &str, symbols: &mut Symbols) -> Result<Opt
     requires { length text.now ≤ 1048576 }
     ensures tree { IfOk result (λ found. IfSome found (λ t. HasText symbols.new t text.now)) }
     ensures writable { IfOk result (λ found. IfSome found (λ t. IsWritableTree symbols.new t)) }
+    ensures table { IfOk result (λ found. IfSome found (λ _. PutsTreeNames text.now symbols.old symbols.new)) }
     ensures none { IfOk result (λ found. IfNone found (IsTreeText text.now → ⊥)) }
     ensures grows { Grows symbols.old symbols.new }
     ensures few_more { length symbols.new ≤ length symbols.old + length text.now }

@@ -1,11 +1,13 @@
 //! Reads nodes.
 ghost use Rattle.std.specs.Prelude.{◌≡◌, ℕ, List, ◌≤◌, ◌++◌, ◌∷◌, [], ⊤, Some, length, IfOk, OnOk};
 ghost use Rattle.std.specs.List.{join_with_byte};
+ghost use Rattle.gr_base.specs.Lists.{gathered};
 ghost use Rattle.gr_symbols.specs.Numbers.{Grows, first_texts};
 ghost use Rattle.td_canon.specs.TreeText.{category_text, node_text, tree_texts};
 ghost use Rattle.td_canon.specs.Writing.{slots_of};
 ghost use Rattle.tg_reader.specs.declared.reader.Run.TheVariants.{Word as OfWord};
-ghost use Rattle.tg_reader.specs.Reading.{AppendsForest, AreKnownNodes, CanReadCategory, CanReadNode, CanReadOne, CanReadRow, Ends, IsKnownBag, IsKnownNode, IsNodeEnd, IsTreeEnd, Later, Lays, LaysOne, Passes, StandsForCategory, StandsForNode, Undoes};
+ghost use Rattle.tg_reader.specs.Naming.{forest_names, label_names, node_names};
+ghost use Rattle.tg_reader.specs.Reading.{AppendsForest, AreKnownNodes, CanReadCategory, CanReadNode, CanReadOne, CanReadRow, Ends, Gets, IsKnownBag, IsKnownNode, IsNodeEnd, IsTreeEnd, Later, Lays, LaysOne, Passes, StandsForCategory, StandsForNode, Undoes};
 
 use crate::reader::{Reader, Stop};
 use gr_symbols::Symbols;
@@ -20,7 +22,7 @@ impl<'a> Reader<'a> {
     /// Takes a category, or `-`. Gives the bag with the category alone, or an empty one.
     fn category(&mut self, alloc: Global, symbols: &mut Symbols) -> Result<Bag, Stop>
         ensures takes { (text : ℕ → List ℕ) → Undoes (category_text text) (CanReadCategory text) (Ends OfWord) self.old.rest.now self.new.rest.now result
-            (λ vs bag. Later symbols.new (λ texts. StandsForCategory text texts vs bag)) }
+            (λ vs bag. Gets symbols.old symbols.new (gathered (label_names text) vs) (λ texts. StandsForCategory text texts vs bag)) }
         ensures known { IfOk result (λ bag. Grows first_texts symbols.old → Later symbols.new (IsKnownBag bag)) }
         ensures passes { Passes symbols.old symbols.new self.old.rest.now self.new.rest.now }
     {
@@ -41,7 +43,7 @@ impl<'a> Reader<'a> {
         symbols: &mut Symbols,
     ) -> Result<TreeNode, Stop>
         ensures takes { (text : ℕ → List ℕ) → Undoes (node_text text) (CanReadNode text) IsNodeEnd self.old.rest.now self.new.rest.now result
-            (λ n node. Later symbols.new (λ texts. StandsForNode text texts n (slots_of node))) }
+            (λ n node. Gets symbols.old symbols.new (node_names text n) (λ texts. StandsForNode text texts n (slots_of node))) }
         ensures known { IfOk result (λ node. Grows first_texts symbols.old → Later symbols.new (λ texts. IsKnownNode texts node)) }
         ensures parent { IfOk result (λ node. node.parent ≡ parent) }
         ensures passes { Passes symbols.old symbols.new self.old.rest.now self.new.rest.now }
@@ -70,7 +72,7 @@ impl<'a> Reader<'a> {
         symbols: &mut Symbols,
     ) -> Result<(), Stop>
         ensures takes { (text : ℕ → List ℕ) → Undoes (λ f. join_with_byte 32 (tree_texts text f)) (CanReadOne text (length nodes.old)) IsTreeEnd self.old.rest.now self.new.rest.now result
-            (λ f _. Later symbols.new (λ texts. AppendsForest text texts parent f nodes.old nodes.new)) }
+            (λ f _. Gets symbols.old symbols.new (forest_names text f) (λ texts. AppendsForest text texts parent f nodes.old nodes.new)) }
         ensures known { OnOk result (Grows first_texts symbols.old → Later symbols.old (AreKnownNodes nodes.old) → Later symbols.new (AreKnownNodes nodes.new)) }
         ensures lays { OnOk result (LaysOne parent nodes.old nodes.new) }
         ensures few { OnOk result (length nodes.new ≤ 24) }
@@ -101,7 +103,7 @@ impl<'a> Reader<'a> {
     ) -> Result<(), Stop>
         requires { length nodes.old ≤ 24 }
         ensures takes { (text : ℕ → List ℕ) → Undoes (λ f. join_with_byte 32 (tree_texts text f) ++ 41 ∷ []) (CanReadRow text (length nodes.old)) (λ rest. ⊤)
-            self.old.rest.now self.new.rest.now result (λ f _. Later symbols.new (λ texts. AppendsForest text texts (Some parent) f nodes.old nodes.new)) }
+            self.old.rest.now self.new.rest.now result (λ f _. Gets symbols.old symbols.new (forest_names text f) (λ texts. AppendsForest text texts (Some parent) f nodes.old nodes.new)) }
         ensures known { OnOk result (Grows first_texts symbols.old → Later symbols.old (AreKnownNodes nodes.old) → Later symbols.new (AreKnownNodes nodes.new)) }
         ensures lays { OnOk result (Lays (Some parent) nodes.old nodes.new) }
         ensures few { OnOk result (length nodes.new ≤ 24) }

@@ -4,8 +4,9 @@ ghost use Rattle.std.specs.Fmt.{decimal};
 ghost use Rattle.gr_terms.specs.declared.Term.TheVariants.{Var as AVar};
 ghost use Rattle.td_canon.specs.TreeText.{label_text};
 ghost use Rattle.tg_reader.specs.declared.reader.Run.TheVariants.{Word as OfWord};
+ghost use Rattle.tg_reader.specs.Naming.{label_names};
 ghost use Rattle.tg_reader.specs.Writable.{IsName, IsWord};
-ghost use Rattle.tg_reader.specs.Reading.{CanRead, Ends, IsKnownTerm, IsNameOf, Later, Passes, StandsFor, Undoes};
+ghost use Rattle.tg_reader.specs.Reading.{CanRead, Ends, Gets, IsKnownTerm, IsNameOf, Later, Passes, StandsFor, Undoes};
 
 use crate::reader::{Reader, Run, Stop};
 use gr_symbols::Symbols;
@@ -29,7 +30,7 @@ impl<'a> Reader<'a> {
     /// Takes a name and the `"` behind it.
     fn quoted(&mut self, symbols: &mut Symbols) -> Result<Term, Stop>
         ensures takes { Undoes (λ t. t ++ 34 ∷ []) IsName (λ rest. ⊤) self.old.rest.now self.new.rest.now result
-            (λ t x. Later symbols.new (λ texts. IsNameOf texts t x)) }
+            (λ t x. Gets symbols.old symbols.new (t ∷ []) (λ texts. IsNameOf texts t x)) }
         ensures known { IfOk result (λ x. Later symbols.new (IsKnownTerm x)) }
         ensures passes { Passes symbols.old symbols.new self.old.rest.now self.new.rest.now }
     {
@@ -42,7 +43,7 @@ impl<'a> Reader<'a> {
     /// Takes a name without `"`.
     fn bare(&mut self, symbols: &mut Symbols) -> Result<Term, Stop>
         ensures takes { Undoes (λ t. t) IsWord (Ends OfWord) self.old.rest.now self.new.rest.now result
-            (λ t x. Later symbols.new (λ texts. IsNameOf texts t x)) }
+            (λ t x. Gets symbols.old symbols.new (t ∷ []) (λ texts. IsNameOf texts t x)) }
         ensures known { IfOk result (λ x. Later symbols.new (IsKnownTerm x)) }
         ensures passes { Passes symbols.old symbols.new self.old.rest.now self.new.rest.now }
     {
@@ -57,7 +58,7 @@ impl<'a> Reader<'a> {
     /// Takes a value.
     pub fn term(&mut self, symbols: &mut Symbols) -> Result<Term, Stop>
         ensures takes { (text : ℕ → List ℕ) → Undoes (label_text text) (CanRead text) (Ends OfWord) self.old.rest.now self.new.rest.now result
-            (λ v x. Later symbols.new (λ texts. StandsFor text texts v x)) }
+            (λ v x. Gets symbols.old symbols.new (label_names text v) (λ texts. StandsFor text texts v x)) }
         ensures known { IfOk result (λ x. Later symbols.new (IsKnownTerm x)) }
         ensures passes { Passes symbols.old symbols.new self.old.rest.now self.new.rest.now }
     {

@@ -1,14 +1,16 @@
 use Rattle.std.proofs.Common.{◌≡◌, ◌+◌, ◌∙◌, ◌++◌, ◌∷◌, [], List, length, sym, rules, refl, subst, arith, ap, length-append, append-nil, Err}
 use Rattle.std.specs.Prelude.{Some}
 use Rattle.gr_base.specs.Forests.{Forest, empty}
-use Rattle.gr_symbols.specs.Numbers.{first_texts}
+use Rattle.gr_symbols.specs.Numbers.{first_texts, with_texts}
 use Rattle.gr_symbols.proofs.NumberLemmas.{Grows-trans}
 use Rattle.gr_terms.specs.Canonical.{Node, Pairs}
 use Rattle.td_canon.specs.Writing.{slots_of}
 use Rattle.td_tree.specs.declared.TreeNode.{TreeNode}
-use Rattle.tg_reader.specs.Reading.{AppendsForest, CanReadBehind, IsKnownNode, Lays}
+use Rattle.tg_reader.proofs.Rows.{table_then}
+use Rattle.tg_reader.specs.Naming.{forest_names, node_names}
+use Rattle.tg_reader.specs.Reading.{AppendsForest, CanReadBehind, IsKnownNode, Lays, Gets}
 use Rattle.tg_reader.proofs.Enclosed.{stops_differs}
-use Rattle.tg_reader.proofs.Forests.{AppendsForest-length, AppendsForest-more, all_nodes, appends_node, first_node, is_node, kids_end, kids_text, lays_longer, lays_more, lays_nothing, lays_one, lays_under, next_node, no_kids, nodes_row, one_node, row_end, some_kids}
+use Rattle.tg_reader.proofs.Forests.{AppendsForest-length, AppendsForest-more, all_nodes, appends_node, first_node, is_node, kids_end, kids_text, lays_longer, lays_more, lays_nothing, lays_one, lays_under, next_node, no_kids, no_nodes, nodes_row, one_node, row_end, some_kids, names-beside, names-tree}
 use Rattle.tg_reader.proofs.Steps.{ate, known_more, now, ok_any, ok_weaker, passes_then, reads_weaker, stops}
 use Rattle.tg_reader.proofs.reader.Reader.+nodes.Goals as goal
 
@@ -18,10 +20,20 @@ kids-returns-in_err-node-clause-takes t c = λ text f rest can end e.
     let one = first_node text (length c.args.nodes.now) f can in
     rw is (stops c.in_err-node.field-0.0 _ _ (c.in_err-node.ensures.takes text one.first (nodes_row text one.more ++ 41 ∷ rest) one.can (row_end text one.more rest) (e ∙ one.joined rest)))
 
+pub kids-row-init : goal.kids-row-init
+kids-row-init t c = record {
+  so_far = λ text f rest can e. no_nodes text (Some c.args.parent) f (41 ∷ rest) c.node.new.nodes c.node.new.symbols c.node.new.self.rest.now e;
+  known = λ first h. h;
+  lays = lays_nothing (Some c.args.parent) c.node.new.nodes;
+  few = c.in_ok-node.ensures.few;
+  more = omega arith;
+  passes = search rules;
+}
+
 pub kids-row-preserved : goal.kids-row-preserved
 kids-row-preserved t c = record {
   so_far = λ text f rest can e.
-      let n = next_node text (Some c.args.parent) f (41 ∷ rest) _ _ _ _ c.eat.new.self.rest.now can (stops_differs 32 [] (41 ∷ rest) refl) c.row-test.ensures.yes (c.row.invariant.so_far text f rest can e) in
+      let n = next_node text (Some c.args.parent) f (41 ∷ rest) _ _ _ _ _ c.eat.new.self.rest.now can (stops_differs 32 [] (41 ∷ rest) refl) c.row-test.ensures.yes (c.row.invariant.so_far text f rest can e) in
       let read = c.in_ok-node-2.ensures.takes text n.item (nodes_row text n.left ++ 41 ∷ rest) n.can (row_end text n.left rest) n.behind in
       n.on _ _ _ c.node-in-row.ensures.passes.grows read.0 read.1;
   known = λ first h. c.in_ok-node-2.ensures.known (Grows-trans first_texts _ _ first c.row.invariant.passes.grows) (c.row.invariant.known first h);
@@ -36,23 +48,26 @@ kids-returns-in_err-node-2-clause-takes t c = λ text f rest can end e.
     let is : c.from_residual-in_err-node-2.result ≡ Err c.in_err-node-2.field-0.0 = search rules in
     let one = first_node text (length c.args.nodes.now) f can in
     let read = c.in_ok-node.ensures.takes text one.first (nodes_row text one.more ++ 41 ∷ rest) one.can (row_end text one.more rest) (e ∙ one.joined rest) in
-    let count = AppendsForest-length text (Some c.args.parent) c.node.new.symbols one.first c.args.nodes.now c.node.new.nodes (now c.node.new.symbols (λ texts. AppendsForest text texts (Some c.args.parent) one.first c.args.nodes.now c.node.new.nodes) read.1) in
+    let count = AppendsForest-length text (Some c.args.parent) c.node.new.symbols one.first c.args.nodes.now c.node.new.nodes (now c.node.new.symbols (λ texts. AppendsForest text texts (Some c.args.parent) one.first c.args.nodes.now c.node.new.nodes) read.1.later) in
     let can_more = subst (λ k. CanReadBehind text k one.more) (sym count) one.can_more in
-    let n = next_node text (Some c.args.parent) one.more (41 ∷ rest) _ _ _ _ c.eat.new.self.rest.now can_more (stops_differs 32 [] (41 ∷ rest) refl) c.row-test.ensures.yes (c.row.invariant.so_far text one.more rest can_more read.0) in
+    let n = next_node text (Some c.args.parent) one.more (41 ∷ rest) _ _ _ _ _ c.eat.new.self.rest.now can_more (stops_differs 32 [] (41 ∷ rest) refl) c.row-test.ensures.yes (c.row.invariant.so_far text one.more rest can_more read.0) in
     rw is (stops c.in_err-node-2.field-0.0 _ _ (c.in_err-node-2.ensures.takes text n.item (nodes_row text n.left ++ 41 ∷ rest) n.can (row_end text n.left rest) n.behind))
 
 pub kids-returns-clause-takes : goal.kids-returns-clause-takes
 kids-returns-clause-takes t c = λ text f rest can end e.
     let one = first_node text (length c.args.nodes.now) f can in
     let read = c.in_ok-node.ensures.takes text one.first (nodes_row text one.more ++ 41 ∷ rest) one.can (row_end text one.more rest) (e ∙ one.joined rest) in
-    let count = AppendsForest-length text (Some c.args.parent) c.node.new.symbols one.first c.args.nodes.now c.node.new.nodes (now c.node.new.symbols (λ texts. AppendsForest text texts (Some c.args.parent) one.first c.args.nodes.now c.node.new.nodes) read.1) in
+    let count = AppendsForest-length text (Some c.args.parent) c.node.new.symbols one.first c.args.nodes.now c.node.new.nodes (now c.node.new.symbols (λ texts. AppendsForest text texts (Some c.args.parent) one.first c.args.nodes.now c.node.new.nodes) read.1.later) in
     let can_more = subst (λ k. CanReadBehind text k one.more) (sym count) one.can_more in
-    let a = all_nodes text (Some c.args.parent) one.more (41 ∷ rest) _ _ _ _ c.row-test.ensures.no (c.row.invariant.so_far text one.more rest can_more read.0) in
+    let a = all_nodes text (Some c.args.parent) one.more (41 ∷ rest) _ _ _ _ _ c.row-test.ensures.no (c.row.invariant.so_far text one.more rest can_more read.0) in
     reads_weaker c.expect.result _ _ (λ x same. (
       same,
-      λ later grows.
-          subst (λ (g : Forest (Node Pairs)). AppendsForest text later (Some c.args.parent) g c.args.nodes.now c.row.nodes) (sym one.is)
-          (AppendsForest-more text (Some c.args.parent) later one.first one.more c.args.nodes.now c.node.new.nodes c.row.nodes (read.1 later (Grows-trans _ _ later c.row.invariant.passes.grows grows)) (a.appended later grows)),
+      subst (λ (g : Forest (Node Pairs)). Gets c.args.symbols.now c.row.symbols (forest_names text g) (λ texts. AppendsForest text texts (Some c.args.parent) g c.args.nodes.now c.row.nodes)) (sym one.is)
+          (record {
+            table = table_then _ _ _ (forest_names text one.first) (forest_names text one.more) read.1.table a.appended.table ∙ ap (with_texts c.args.symbols.now) (sym (names-beside text one.first one.more));
+            later = λ later grows.
+                AppendsForest-more text (Some c.args.parent) later one.first one.more c.args.nodes.now c.node.new.nodes c.row.nodes (read.1.later later (Grows-trans _ _ later c.row.invariant.passes.grows grows)) (a.appended.later later grows);
+          }),
     ))
     (c.expect.ensures.takes rest (c.row-test.ensures.same ∙ a.bytes_are))
 
@@ -71,10 +86,13 @@ node-returns-then-eat-clause-takes t c = λ text f rest can end e.
     let few = one.few in
     reads_weaker c.kids.result _ _ (λ x under. (
       under.0,
-      λ later grows.
-          subst (λ (g : Forest (Node Pairs)). AppendsForest text later c.args.parent g c.args.nodes.now c.kids.new.nodes) (sym one.is)
-          (appends_node text later c.args.parent c.len-number.result c.args.nodes.now c.push.new.self c.kids.new.nodes c.in_ok-node.node one.node one.kids (read.1 later (Grows-trans _ _ later c.kids.ensures.passes.grows grows)) c.in_ok-node.ensures.parent
-          c.in_ok-push.ensures.ok c.len-number.ensures (under.1 later grows)),
+      subst (λ (g : Forest (Node Pairs)). Gets c.args.symbols.now c.kids.new.symbols (forest_names text g) (λ texts. AppendsForest text texts c.args.parent g c.args.nodes.now c.kids.new.nodes)) (sym one.is)
+          (record {
+            table = table_then _ _ _ (node_names text one.node) (forest_names text one.kids) read.1.table under.1.table ∙ ap (with_texts c.args.symbols.now) (sym (names-tree text one.node one.kids));
+            later = λ later grows.
+                appends_node text later c.args.parent c.len-number.result c.args.nodes.now c.push.new.self c.kids.new.nodes c.in_ok-node.node one.node one.kids (read.1.later later (Grows-trans _ _ later c.kids.ensures.passes.grows grows)) c.in_ok-node.ensures.parent
+                c.in_ok-push.ensures.ok c.len-number.ensures (under.1.later later grows);
+          }),
     ))
     (c.kids.ensures.takes text one.kids rest (record { some = some.some; trees = record { few = omega (arith, few, count); nodes = one.can_kids } }) tt some.behind)
 
@@ -94,10 +112,13 @@ node-returns-else-eat-clause-takes t c = λ text f rest can end e.
     let read = c.in_ok-node.ensures.takes text one.node (kids_text text one.kids ++ rest) one.can (kids_end text one.kids rest end) (e ∙ one.split rest) in
     let none = no_kids text one.kids c.labelled.new.self.rest.now rest c.if-eat.ensures.no read.0 in (
       c.if-eat.ensures.same ∙ none.same,
-      λ later grows.
-          subst (λ (g : Forest (Node Pairs)). AppendsForest text later c.args.parent g c.args.nodes.now c.push.new.self) (sym one.is)
-          (appends_node text later c.args.parent c.len-number.result c.args.nodes.now c.push.new.self c.push.new.self c.in_ok-node.node one.node one.kids (read.1 later grows) c.in_ok-node.ensures.parent
-          c.in_ok-push.ensures.ok c.len-number.ensures (subst (λ (g : Forest (Node Pairs)). AppendsForest text later (Some c.len-number.result) g c.push.new.self c.push.new.self) (sym none.none) (empty, tt, sym (append-nil c.push.new.self)))),
+      subst (λ (g : Forest (Node Pairs)). Gets c.args.symbols.now c.labelled.new.symbols (forest_names text g) (λ texts. AppendsForest text texts c.args.parent g c.args.nodes.now c.push.new.self)) (sym one.is)
+          (record {
+            table = read.1.table ∙ ap (with_texts c.args.symbols.now) (sym (append-nil (node_names text one.node)) ∙ ap (λ g. node_names text one.node ++ forest_names text g) (sym none.none) ∙ sym (names-tree text one.node one.kids));
+            later = λ later grows.
+                appends_node text later c.args.parent c.len-number.result c.args.nodes.now c.push.new.self c.push.new.self c.in_ok-node.node one.node one.kids (read.1.later later grows) c.in_ok-node.ensures.parent
+                c.in_ok-push.ensures.ok c.len-number.ensures (subst (λ (g : Forest (Node Pairs)). AppendsForest text later (Some c.len-number.result) g c.push.new.self c.push.new.self) (sym none.none) (empty, tt, sym (append-nil c.push.new.self)));
+          }),
     )
 
 pub node-returns-else-eat-clause-known : goal.node-returns-else-eat-clause-known

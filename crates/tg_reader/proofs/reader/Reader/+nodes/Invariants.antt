@@ -17,7 +17,7 @@ decreases-node l = 2 * (24 - length l.nodes.now)
 abbrev pub invariant-kids-row : goal.invariant-kids-row
 invariant-kids-row l = record {
   so_far : (text : ℕ → List ℕ) (f : Forest (Node Pairs)) (rest : List ℕ) → CanReadBehind text (length l.initial.nodes) f → l.initial.self.rest.now ≡ nodes_row text f ++ 41 ∷ rest →
-      NodesSoFar text (Some l.parent) f (41 ∷ rest) l.initial.nodes l.nodes l.symbols l.self.rest.now;
+      NodesSoFar text (Some l.parent) f (41 ∷ rest) l.initial.nodes l.nodes l.initial.symbols l.symbols l.self.rest.now;
   known : Grows first_texts l.initial.symbols → Later l.initial.symbols (AreKnownNodes l.initial.nodes) → Later l.symbols (AreKnownNodes l.nodes);
   lays : Lays (Some l.parent) l.initial.nodes l.nodes;
   few : length l.nodes ≤ 24;

@@ -1,6 +1,6 @@
 use Rattle.std.proofs.Common.{◌≡◌, ◌∙◌, ℕ, List, ◌∷◌, sym, subst, ap, rules, Err, length, arith}
 use Rattle.std.proofs.lemmas.Bool.Decides.{Decides-eqb}
-use Rattle.gr_symbols.specs.Numbers.{Names}
+use Rattle.gr_symbols.specs.Numbers.{Names, with_text}
 use Rattle.gr_symbols.proofs.NumberLemmas.{Names-grows}
 use Rattle.tg_reader.proofs.Runs.{word_run, word_some}
 use Rattle.tg_reader.proofs.Steps.{known_name, stops}
@@ -22,7 +22,13 @@ returns-then-is_empty-clause-takes c = λ t rest word end e.
 pub returns-clause-takes : goal.returns-clause-takes
 returns-clause-takes c = λ t rest word end e.
     let read = c.in_ok-word.ensures.takes t rest (word_run t word) end e in
-    (read.0, λ later grows. subst (λ z. Names later c.in_ok-name.name.0 z) read.1 (Names-grows _ later _ _ c.in_ok-name.ensures.named grows))
+    (
+      read.0,
+      record {
+        table = c.in_ok-name.ensures.table ∙ ap (with_text c.args.symbols.now) read.1;
+        later = λ later grows. subst (λ z. Names later c.in_ok-name.name.0 z) read.1 (Names-grows _ later _ _ c.in_ok-name.ensures.named grows);
+      },
+    )
 
 pub returns-clause-known : goal.returns-clause-known
 returns-clause-known c = λ later grows. known_name later _ _ (Names-grows _ later _ _ c.in_ok-name.ensures.named grows) c.in_ok-word.ensures.name

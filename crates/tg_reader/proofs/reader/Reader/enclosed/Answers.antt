@@ -1,6 +1,8 @@
 use Rattle.std.proofs.Common.{◌≡◌, ◌∙◌, ◌++◌, sym, rules, refl, subst, Err}
 use Rattle.gr_terms.specs.Canonical.{Pairs}
-use Rattle.tg_reader.specs.Reading.{PutsPairs}
+use Rattle.gr_base.specs.Lists.{gathered}
+use Rattle.tg_reader.specs.Naming.{pair_names}
+use Rattle.tg_reader.specs.Reading.{PutsPairs, Gets}
 use Rattle.tg_reader.proofs.Enclosed.{not_opened, opened}
 use Rattle.tg_reader.proofs.Steps.{reads_weaker, stops}
 use Rattle.tg_reader.proofs.reader.Reader.enclosed.Goals as goal
@@ -20,4 +22,4 @@ returns-in_ok-pairs-clause-takes c = λ text ps rest can differs e.
 pub returns-else-eat-clause-takes : goal.returns-else-eat-clause-takes
 returns-else-eat-clause-takes c = λ text ps rest can differs e.
     let n = not_opened text c.args.opening.now c.args.closing.now ps c.args.self.now.rest.now rest c.if-eat.ensures.no e in
-    (c.if-eat.ensures.same ∙ n.same, λ later grows. subst (λ (qs : Pairs). PutsPairs text later qs c.args.bag.now c.args.bag.now) (sym n.none) refl)
+    (c.if-eat.ensures.same ∙ n.same, subst (λ (qs : Pairs). Gets c.args.symbols.now c.args.symbols.now (gathered (pair_names text) qs) (λ texts. PutsPairs text texts qs c.args.bag.now c.args.bag.now)) (sym n.none) (record { table = refl; later = λ later grows. refl }))

@@ -1,6 +1,9 @@
 use Rattle.std.proofs.Common.{◌≡◌, ◌∙◌, ◌++◌, ◌∷◌, [], rules, refl, Err}
 use Rattle.gr_symbols.proofs.NumberLemmas.{Grows-trans}
 use Rattle.td_canon.specs.TreeText.{label_text}
+use Rattle.gr_base.specs.Lists.{gathered}
+use Rattle.tg_reader.proofs.Rows.{table_then}
+use Rattle.tg_reader.specs.Naming.{label_names}
 use Rattle.tg_reader.proofs.LiteralTexts.{arguments_text, literal_regroup}
 use Rattle.tg_reader.proofs.Steps.{stops}
 use Rattle.tg_reader.proofs.reader.Reader.literal.Goals as goal
@@ -46,13 +49,16 @@ returns-clause-takes c = λ text l rest can end e.
     let pred = c.in_ok-pred.ensures.takes text l.pred (40 ∷ last) can.pred refl (c.in_ok-expect.ensures.takes behind handle.0) in
     let args = c.in_ok-args.ensures.takes text l.args rest can.args tt (c.in_ok-expect-2.ensures.takes last pred.0) in (
       args.0,
-      λ later grows.
-          let grows_pred = Grows-trans _ _ later c.arguments.ensures.passes.grows grows in
-          record {
-            handle = handle.1 later (Grows-trans _ _ later c.term-2.ensures.passes.grows grows_pred);
-            pred = pred.1 later grows_pred;
-            args = args.1 later grows;
-          },
+      record {
+        table = table_then _ _ _ (label_names text l.handle) (label_names text l.pred ++ gathered (label_names text) l.args) handle.1.table (table_then _ _ _ (label_names text l.pred) (gathered (label_names text) l.args) pred.1.table args.1.table);
+        later = λ later grows.
+            let grows_pred = Grows-trans _ _ later c.arguments.ensures.passes.grows grows in
+            record {
+              handle = handle.1.later later (Grows-trans _ _ later c.term-2.ensures.passes.grows grows_pred);
+              pred = pred.1.later later grows_pred;
+              args = args.1.later later grows;
+            };
+      },
     )
 
 pub returns-clause-known : goal.returns-clause-known

@@ -1,9 +1,10 @@
 use Rattle.std.proofs.Common.{◌≡◌, ◌∙◌, ◌++◌, ◌∷◌, ℕ, List, length, sym, subst, ap, rules, refl, arith, Err, length-append}
 use Rattle.std.proofs.lemmas.Bool.{false≢true}
-use Rattle.gr_symbols.specs.Numbers.{Names}
+use Rattle.gr_symbols.specs.Numbers.{Names, with_text, with_texts}
 use Rattle.gr_symbols.proofs.NumberLemmas.{Grows-trans, Names-grows}
 use Rattle.gr_text.specs.Words.{IsBareWord}
 use Rattle.td_canon.specs.TreeText.{label_text}
+use Rattle.tg_reader.specs.Naming.{label_names}
 use Rattle.tg_reader.proofs.PairLemmas.{bare_length, bare_word, known_pair, pair_regroup, put_each, put_or_there}
 use Rattle.tg_reader.proofs.Runs.{word_run}
 use Rattle.tg_reader.proofs.Steps.{stops}
@@ -45,11 +46,14 @@ returns-clause-takes c = λ text p rest can end e.
     let read = c.in_ok-attribute.ensures.takes (text p.0) (61 ∷ (label_text text p.1 ++ rest)) (word_run (text p.0) can.attribute) refl (e ∙ pair_regroup text p rest) in
     let value = c.in_ok-value.ensures.takes text p.1 rest can.value end (c.in_ok-expect.ensures.takes (label_text text p.1 ++ rest) read.0) in (
       value.0,
-      λ later grows. (
-        (c.in_ok-number.number, c.in_ok-value.value),
-        (subst (λ z. Names later c.in_ok-number.number.0 z) read.1 (Names-grows _ later _ _ c.in_ok-number.ensures.named (Grows-trans _ _ later c.term.ensures.passes.grows grows)), value.1 later grows),
-        put_or_there c.in_ok-_added._added _ _ c.in_ok-number.number c.in_ok-value.value c.in_ok-_added.ensures.absent c.in_ok-_added.ensures.added c.in_ok-_added.ensures.there c.in_ok-_added.ensures.same,
-      ),
+      record {
+        table = value.1.table ∙ ap (λ z. with_texts z (label_names text p.1)) (c.in_ok-number.ensures.table ∙ ap (with_text c.args.symbols.now) read.1);
+        later = λ later grows. (
+          (c.in_ok-number.number, c.in_ok-value.value),
+          (subst (λ z. Names later c.in_ok-number.number.0 z) read.1 (Names-grows _ later _ _ c.in_ok-number.ensures.named (Grows-trans _ _ later c.term.ensures.passes.grows grows)), value.1.later later grows),
+          put_or_there c.in_ok-_added._added _ _ c.in_ok-number.number c.in_ok-value.value c.in_ok-_added.ensures.absent c.in_ok-_added.ensures.added c.in_ok-_added.ensures.there c.in_ok-_added.ensures.same,
+        );
+      },
     )
 
 pub returns-clause-known : goal.returns-clause-known

@@ -3,6 +3,9 @@ use Rattle.std.specs.Prelude.{None}
 use Rattle.gr_symbols.proofs.NumberLemmas.{Grows-trans}
 use Rattle.td_tree.specs.Trees.{BagPairs}
 use Rattle.td_tree.specs.declared.TreeNode.{TreeNode}
+use Rattle.gr_base.specs.Lists.{gathered}
+use Rattle.tg_reader.proofs.Rows.{table_then}
+use Rattle.tg_reader.specs.Naming.{forest_names, literal_names, pair_names}
 use Rattle.tg_reader.specs.Reading.{AppendsForest, AreKnownNodes, IsKnownBag, PutsPairs}
 use Rattle.tg_reader.proofs.Steps.{stops}
 use Rattle.tg_reader.proofs.TreeTexts.{behind_nodes, interface_text, literals_text, no_interface, nothing_behind, tree_regroup}
@@ -40,14 +43,18 @@ returns-clause-takes c = λ text d rest can end e.
     let interface = c.in_ok-enclosed.ensures.takes text d.interface (literals_text text d.literals ++ rest) can.interface (no_interface text d.literals rest can.literals end) nodes.0 in
     let literals = c.in_ok-sem.ensures.takes text d.literals rest can.literals (nothing_behind rest end) interface.0 in (
       literals.0,
-      λ later grows.
-          let grows_interface = Grows-trans _ _ later c.literals.ensures.passes.grows grows in
-          let grows_nodes = Grows-trans _ _ later c.enclosed.ensures.passes.grows grows_interface in
-          record {
-            nodes = subst (λ (zs : List TreeNode). AppendsForest text later None d.nodes zs c.node.new.nodes) c.new-nodes.ensures (nodes.1 later grows_nodes);
-            interface = subst (λ (zs : BagPairs). PutsPairs text later d.interface zs c.enclosed.new.bag) c.new-iface.ensures (interface.1 later grows_interface);
-            literals = literals.1 later grows;
-          },
+      record {
+        table = table_then _ _ _ (forest_names text d.nodes ++ gathered (pair_names text) d.interface) (gathered (literal_names text) d.literals)
+            (table_then _ _ _ (forest_names text d.nodes) (gathered (pair_names text) d.interface) nodes.1.table interface.1.table) literals.1.table;
+        later = λ later grows.
+            let grows_interface = Grows-trans _ _ later c.literals.ensures.passes.grows grows in
+            let grows_nodes = Grows-trans _ _ later c.enclosed.ensures.passes.grows grows_interface in
+            record {
+              nodes = subst (λ (zs : List TreeNode). AppendsForest text later None d.nodes zs c.node.new.nodes) c.new-nodes.ensures (nodes.1.later later grows_nodes);
+              interface = subst (λ (zs : BagPairs). PutsPairs text later d.interface zs c.enclosed.new.bag) c.new-iface.ensures (interface.1.later later grows_interface);
+              literals = literals.1.later later grows;
+            };
+      },
     )
 
 pub returns-clause-known : goal.returns-clause-known

@@ -15,3 +15,4 @@ pub mod WalkLengths
 pub mod Tables
 pub mod Readable
 pub mod Answering
+pub mod OneNaming

@@ -16,7 +16,7 @@ use Rattle.td_canon.specs.CanonicalTexts.{text_in}
 use Rattle.td_canon.specs.TreeText.{category_text, decorated_text, enclosed, label_text, literal_text, node_text, pair_texts, spelled, tree_texts}
 use Rattle.td_canon.proofs.ValueLemmas.{text_in-names}
 
-labels-map : {A B : Type 0} (f : A → B) (g : Forest A) → labels (map_forest f g) ≡ map f (labels g)
+pub labels-map : {A B : Type 0} (f : A → B) (g : Forest A) → labels (map_forest f g) ≡ map f (labels g)
 labels-map f empty = refl
 labels-map f (tree a kids more) = ap (λ ls. f a ∷ ls) (ap₂ (λ xs ys. xs ++ ys) (labels-map f kids) (labels-map f more) ∙ sym (map-append f (labels kids) (labels more)))
 
@@ -146,7 +146,7 @@ module _ (text : ℕ → List ℕ) (texts : List (List ℕ)) (once : NoneTwice t
                 absurd (false≢true (sym e ∙ (Decides-eqb a CAT).1 (only a (sym (moved_text a found) ∙ ap (text_in texts) is ∙ text_in-names texts CAT (text CAT) cat))))
             other false h = h
 
-    category_moved : (ps : Pairs) → Each FoundPair ps → category (moved_pairs ps) ≡ map moved_label (category ps)
+    pub category_moved : (ps : Pairs) → Each FoundPair ps → category (moved_pairs ps) ≡ map moved_label (category ps)
     category_moved [] found = refl
     category_moved (p ∷ ps) found = ap (λ b. if b then (moved_label p.1 ∷ []) else category (moved_pairs ps)) (cat_moved p.0 found.0.0) ∙ by (p.0 == CAT) (category_moved ps found.1)
       where
@@ -154,7 +154,7 @@ module _ (text : ℕ → List ℕ) (texts : List (List ℕ)) (once : NoneTwice t
         by true later = refl
         by false later = later
 
-    properties_moved : (ps : Pairs) → Each FoundPair ps → properties (moved_pairs ps) ≡ moved_pairs (properties ps)
+    pub properties_moved : (ps : Pairs) → Each FoundPair ps → properties (moved_pairs ps) ≡ moved_pairs (properties ps)
     properties_moved [] found = refl
     properties_moved (p ∷ ps) found =
         ap (λ b. if b then properties (moved_pairs ps) else ((moved p.0, moved_label p.1) ∷ properties (moved_pairs ps))) (cat_moved p.0 found.0.0) ∙ by (p.0 == CAT) (properties_moved ps found.1)

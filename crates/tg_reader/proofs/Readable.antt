@@ -57,6 +57,7 @@ IsMarkText text (named a) =
 IsMarkText text (numbered k) = ⊥
 
 pub record StandsWell (text : ℕ → List ℕ) (p : ℕ × Label) : Type 0 where
+  pub can : CanReadPair text p
   pub uncoloured : text p.0 ≢ codes "color"
   pub mark : text p.0 ≡ codes "mark" → IsMarkText text p.1
 
@@ -85,7 +86,7 @@ size-map : {A B : Type 0} (f : A → B) (g : Forest A) → size (map_forest f g)
 size-map f empty = refl
 size-map f (tree a kids more) = omega (arith, size-map f kids, size-map f more)
 
-one-map : {A B : Type 0} (f : A → B) (g : Forest A) → IsOneTree g → IsOneTree (map_forest f g)
+pub one-map : {A B : Type 0} (f : A → B) (g : Forest A) → IsOneTree g → IsOneTree (map_forest f g)
 one-map f empty one = absurd one
 one-map f (tree a kids empty) one = tt
 one-map f (tree a kids (tree b under more)) one = absurd one
@@ -127,6 +128,7 @@ module _ (old : List (List ℕ)) (table : IsTable old) (met : List ℕ) (few : s
   well bag writable = each_labelled (StandsWell (text_in old)) bag (λ p i.
       let own = Each-at (IsWritableOwn old) bag p writable i in
       record {
+        can = can_pair p own.pair;
         uncoloured = own.uncoloured;
         mark = λ e. mark_text p.1 (own.mark (only_number old table.once table.first MARK p.0.0 (codes "mark") (first_names old table.once table.first MARK (codes "mark") refl) (λ h. absurd cc) e));
       })

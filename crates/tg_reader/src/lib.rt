@@ -19,6 +19,7 @@
 #![tactic(auto)]
 
 mod bags;
+pub mod laws;
 mod literals;
 mod nodes;
 mod reader;

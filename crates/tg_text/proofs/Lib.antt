@@ -17,3 +17,4 @@ pub mod TextRows
 pub mod OneLine
 pub mod OneText
 pub mod OneAnswer
+pub mod Putting

@@ -21,7 +21,7 @@ use Rattle.tg_syntax.specs.Files.{file, system}
 use Rattle.tg_syntax.specs.Names.{keyword}
 use Rattle.tg_syntax.proofs.OneAnswer.{one_answer as one_syntax}
 use Rattle.tg_text.specs.Alike.{AreAlike}
-use Rattle.tg_text.specs.Answers.{AreReadClasses, Classes, IsFirstBadLine, IsGrammarAnswer, IsOfVersionOne, IsReadClass, SaysVersion}
+use Rattle.tg_text.specs.Answers.{AreReadClasses, Classes, IsFirstBadLine, IsGrammarReading, IsOfVersionOne, IsReadClass, SaysVersion}
 use Rattle.tg_text.specs.GrammarText.{ended, grammar_text}
 use Rattle.tg_text.proofs.ClassRows.{written}
 use Rattle.tg_text.proofs.FrontLemmas.{lines_apart}
@@ -82,7 +82,7 @@ data Right (bytes : List ℕ) (texts : List (List ℕ)) : Result Classes ReadRef
   no_syntax : (place : Place) → IsUtf8 bytes → IsOfVersionOne bytes → IsSyntaxAnswer {A = Classes} bytes (Err place) → Right bytes texts (Err (refusal.Syntax place))
   no_canonical : (line : ℕ) → IsUtf8 bytes → IsGrammarFile bytes → IsFirstBadLine bytes line → Right bytes texts (Err (refusal.NotCanonical line))
 
-right : (bytes : List ℕ) (texts : List (List ℕ)) (x : Result Classes ReadRefusal) → (x ≡ Err refusal.Memory → ⊥) → IsGrammarAnswer bytes texts x → Right bytes texts x
+right : (bytes : List ℕ) (texts : List (List ℕ)) (x : Result Classes ReadRefusal) → (x ≡ Err refusal.Memory → ⊥) → IsGrammarReading bytes texts x → Right bytes texts x
 right bytes texts (Ok x) some h = reads x h.0 h.1 h.2
 right bytes texts (Err refusal.Memory) some h = absurd (some refl)
 right bytes texts (Err (refusal.NotUtf8 n)) some h = no_utf8 n h.0 h.1
@@ -102,7 +102,7 @@ read_is_good : (bytes : List ℕ) (texts : List (List ℕ)) (cs : List ClassTree
 read_is_good bytes texts cs line table h bad = no_bad bytes (text_rows (written texts cs)) line (classes_text_leads texts table bytes cs h) (joined-text_rows (written texts cs) ∙ sym h.written) bad
 
 -- and two such lists have the same text
-read_alike : (bytes : List ℕ) (texts others : List (List ℕ)) (cs ds : List ClassTrees) → IsTable texts → IsTable others → AreReadClasses texts bytes cs → AreReadClasses others bytes ds → written texts cs ≡ written others ds
+pub read_alike : (bytes : List ℕ) (texts others : List (List ℕ)) (cs ds : List ClassTrees) → IsTable texts → IsTable others → AreReadClasses texts bytes cs → AreReadClasses others bytes ds → written texts cs ≡ written others ds
 read_alike bytes texts others cs ds table table' h g = texts_apart (written texts cs) (written others ds) (read_classes texts table cs h.each) (read_classes others table' ds g.each) (sym h.written ∙ g.written)
 
 module _ (bytes : List ℕ) (texts others : List (List ℕ)) (table : IsTable texts) (table' : IsTable others) where
@@ -133,21 +133,21 @@ module _ (bytes : List ℕ) (texts others : List (List ℕ)) (table : IsTable te
   alike _ _ (no_canonical line u text bad) (no_syntax place u' one stops) = absurd (no_stop bytes place text stops)
   alike _ _ (no_canonical line u text bad) (no_canonical other u' text' bad') = ap (λ k. refusal.NotCanonical k) (one_bad bytes line other bad bad')
 
-  pub one_answer : (x y : Result Classes ReadRefusal) → (x ≡ Err refusal.Memory → ⊥) → (y ≡ Err refusal.Memory → ⊥) → IsGrammarAnswer bytes texts x → IsGrammarAnswer bytes others y → AreAlike texts others x y
+  pub one_answer : (x y : Result Classes ReadRefusal) → (x ≡ Err refusal.Memory → ⊥) → (y ≡ Err refusal.Memory → ⊥) → IsGrammarReading bytes texts x → IsGrammarReading bytes others y → AreAlike texts others x y
   one_answer x y some some' h g = alike x y (right bytes texts x some h) (right bytes others y some' g)
 
 -- ---- what was written
 
 pub written_once : (texts : List (List ℕ)) (cs : List ClassTrees) → IsTable texts → Each (IsReadClass texts) cs → NoneTwice (map (λ (c : ClassTrees). c.class) cs) → (others : List (List ℕ)) → IsTable others → (read : Classes)
-    → IsGrammarAnswer (grammar_text (written texts cs)) others (Ok read) → written others read.items ≡ written texts cs
+    → IsGrammarReading (grammar_text (written texts cs)) others (Ok read) → written others read.items ≡ written texts cs
 written_once texts cs table each once others table' read h = read_alike (grammar_text (written texts cs)) others texts read.items cs table' table h.2 (record { each = each; once = once; written = refl })
 
 pub written_is_canonical : (texts : List (List ℕ)) (cs : List ClassTrees) → IsTable texts → Each (IsReadClass texts) cs → NoneTwice (map (λ (c : ClassTrees). c.class) cs) → (others : List (List ℕ)) (line : ℕ)
-    → IsGrammarAnswer (grammar_text (written texts cs)) others (Err (refusal.NotCanonical line)) → ⊥
+    → IsGrammarReading (grammar_text (written texts cs)) others (Err (refusal.NotCanonical line)) → ⊥
 written_is_canonical texts cs table each once others line h = read_is_good (grammar_text (written texts cs)) texts cs line table (record { each = each; once = once; written = refl }) h.2
 
 pub written_is_read : (texts : List (List ℕ)) (cs : List ClassTrees) → IsTable texts → Each (IsReadClass texts) cs → NoneTwice (map (λ (c : ClassTrees). c.class) cs) → length (grammar_text (written texts cs)) < 10 ^ 9
-    → (others : List (List ℕ)) → IsTable others → (y : Result Classes ReadRefusal) → (y ≡ Err refusal.Memory → ⊥) → IsGrammarAnswer (grammar_text (written texts cs)) others y
+    → (others : List (List ℕ)) → IsTable others → (y : Result Classes ReadRefusal) → (y ≡ Err refusal.Memory → ⊥) → IsGrammarReading (grammar_text (written texts cs)) others y
     → (read : Classes) × (y ≡ Ok read) × (written others read.items ≡ written texts cs)
 written_is_read texts cs table each once few others table' y some g = by y (right (grammar_text (written texts cs)) others y some g)
   where

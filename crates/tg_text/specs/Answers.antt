@@ -1,5 +1,5 @@
 -- Which answer is right for the bytes of a grammar text.
-use Rattle.std.specs.Prelude.{◌≡◌, ◌≢◌, ℕ, suc, ◌<◌, ◌^◌, List, [], ◌∷◌, ◌++◌, length, map, codes, Result, Ok, Err, Vec, ⊤}
+use Rattle.std.specs.Prelude.{◌≡◌, ◌≢◌, ℕ, suc, ◌<◌, ◌^◌, List, [], ◌∷◌, ◌++◌, length, map, codes, Result, Ok, Err, IfOk, Vec, ⊤}
 use Rattle.std.specs.declared.alloc.Global.{Global}
 use Rattle.std.specs.Fmt.{decimal}
 use Rattle.std.specs.Str.{IsUtf8, IsValidUpTo}
@@ -10,6 +10,7 @@ use Rattle.td_canon.specs.CanonicalTexts.{text_in}
 use Rattle.td_canon.specs.TreeSets.{IsWhole, trees_of}
 use Rattle.td_canon.specs.declared.tree_set.ClassTrees.{ClassTrees}
 use Rattle.tg_syntax.specs.Answers.{IsGrammarFile, IsSyntaxAnswer}
+use Rattle.tg_text.specs.Naming.{PutsClasses}
 use Rattle.tg_text.specs.GrammarText.{class_text_of, grammar_text}
 use Rattle.tg_text.specs.Lines.{Standing, begins, over, Follows, Leads}
 use Rattle.tg_reader.specs.Writable.{IsWord, IsWritableTree}
@@ -54,12 +55,17 @@ pub record AreReadClasses (texts : List (List ℕ)) (bytes : List ℕ) (classes 
 abbrev pub Classes : Type 0
 Classes = Vec ClassTrees Global
 
--- The right answer for bytes, by the numbers of texts behind the reading. Version comes before syntax, and syntax before the question whether the lines are those that are written. Want of memory says nothing
-abbrev pub IsGrammarAnswer : List ℕ → List (List ℕ) → Result Classes ReadRefusal → Type 0
-IsGrammarAnswer bytes texts (Ok classes) = IsUtf8 bytes × IsGrammarFile bytes × AreReadClasses texts bytes classes.items
-IsGrammarAnswer bytes texts (Err refusal.Memory) = ⊤
-IsGrammarAnswer bytes texts (Err (refusal.NotUtf8 n)) = (IsUtf8 bytes → ⊥) × IsValidUpTo bytes n
-IsGrammarAnswer bytes texts (Err (refusal.Version n)) = IsUtf8 bytes × SaysVersion bytes n × (n ≢ 1)
-IsGrammarAnswer bytes texts (Err (refusal.Syntax place)) = IsUtf8 bytes × IsOfVersionOne bytes × IsSyntaxAnswer {A = Classes} bytes (Err place)
-IsGrammarAnswer bytes texts (Err (refusal.NotCanonical line)) = IsUtf8 bytes × IsGrammarFile bytes × IsFirstBadLine bytes line
-IsGrammarAnswer bytes texts (Err _) = ⊥
+-- What is right of an answer for bytes by one table of texts, that behind the reading. Version comes before syntax, and syntax before the question whether the lines are those that are written. Want of memory says nothing
+abbrev pub IsGrammarReading : List ℕ → List (List ℕ) → Result Classes ReadRefusal → Type 0
+IsGrammarReading bytes texts (Ok classes) = IsUtf8 bytes × IsGrammarFile bytes × AreReadClasses texts bytes classes.items
+IsGrammarReading bytes texts (Err refusal.Memory) = ⊤
+IsGrammarReading bytes texts (Err (refusal.NotUtf8 n)) = (IsUtf8 bytes → ⊥) × IsValidUpTo bytes n
+IsGrammarReading bytes texts (Err (refusal.Version n)) = IsUtf8 bytes × SaysVersion bytes n × (n ≢ 1)
+IsGrammarReading bytes texts (Err (refusal.Syntax place)) = IsUtf8 bytes × IsOfVersionOne bytes × IsSyntaxAnswer {A = Classes} bytes (Err place)
+IsGrammarReading bytes texts (Err (refusal.NotCanonical line)) = IsUtf8 bytes × IsGrammarFile bytes × IsFirstBadLine bytes line
+IsGrammarReading bytes texts (Err _) = ⊥
+
+-- The right answer for bytes, by the tables of texts before the reading and behind it: behind classes that were read the old table has got their names and what their trees name, in the order of the text, and nothing else
+pub record IsGrammarAnswer (bytes : List ℕ) (old new : List (List ℕ)) (answer : Result Classes ReadRefusal) : Type 0 where
+  pub reading : IsGrammarReading bytes new answer
+  pub table : IfOk answer (λ classes. PutsClasses (map (class_text_of new) classes.items) old new)

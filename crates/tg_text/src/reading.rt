@@ -8,6 +8,9 @@ ghost use Rattle.gr_text.specs.Places.{line_after};
 ghost use Rattle.td_canon.specs.TreeSets.{Entry, texts_of};
 ghost use Rattle.td_tree.specs.declared.Tree.{Tree as OneTree};
 ghost use Rattle.tg_reader.specs.Writable.{IsTable, IsTreeText};
+ghost use Rattle.tg_reader.specs.Naming.{PutsTreeNames};
+ghost use Rattle.tg_text.specs.GrammarText.{class_text_of};
+ghost use Rattle.tg_text.specs.Naming.{PutsTrees, PutsClasses};
 ghost use Rattle.tg_text.specs.Answers.{AreReadClasses, IsGrammarAnswer};
 ghost use Rattle.tg_text.specs.Lines.{inside, between, begins};
 ghost use Rattle.tg_text.specs.Reading.{AreReadTrees, HasTrees, HasBody, HasClasses, IsLinesAnswer, NoClassNext, StopsAt};
@@ -71,6 +74,7 @@ fn add_tree(
     requires read { AreReadTrees symbols.old trees.old }
     ensures added { IfOk result (λ added. OnTrue added ((t : OneTree) × (trees.new ≡ trees.old ++ record { tree = t; text = text.now } ∷ [])
         × AreReadTrees symbols.new trees.new)) }
+    ensures table { IfOk result (λ added. OnTrue added (PutsTreeNames text.now symbols.old symbols.new)) }
     ensures refused { IfOk result (λ added. OnFalse added (IsTreeText text.now → Each (λ t. IsBefore t text.now) (texts_of trees.old) → ⊥)) }
     ensures grows { Grows symbols.old symbols.new }
     ensures few_more { length symbols.new ≤ length symbols.old + length text.now }
@@ -94,6 +98,7 @@ fn trees_in<'a>(
 ) -> Result<(TreeSet, &'a str), Stop>
     requires { length text.now ≤ 1048576 }
     ensures trees { IfOk result (λ r. HasTrees symbols.new r.0 text.now r.1.now) }
+    ensures table { IfOk result (λ r. PutsTrees (texts_of r.0) symbols.old symbols.new) }
     ensures stops { IfErr result (λ stop. (names : List (List ℕ)) → StopsAt (inside names []) text.now stop) }
     ensures grows { Grows symbols.old symbols.new }
     ensures few_more { IfOk result (λ r. length symbols.new + length r.1.now ≤ length symbols.old + length text.now) }
@@ -121,6 +126,7 @@ fn body_in<'a>(
 ) -> Result<(ClassTrees, &'a str), Stop>
     requires { length text.now ≤ 1048576 }
     ensures body { IfOk result (λ r. HasBody symbols.new r.0 text.now r.1.now) }
+    ensures table { IfOk result (λ r. PutsTrees (texts_of r.0.trees) symbols.old symbols.new) }
     ensures class { IfOk result (λ r. r.0.class ≡ class) }
     ensures stops { IfErr result (λ stop. (names : List (List ℕ)) → StopsAt (inside names []) text.now stop) }
     ensures grows { Grows symbols.old symbols.new }
@@ -153,6 +159,7 @@ fn classes_in<'a>(
     requires { length text.now ≤ 1048576 }
     ensures classes { IfOk result (λ r. HasClasses symbols.new r.0.items text.now r.1.now) }
     ensures last { IfOk result (λ r. NoClassNext r.1.now) }
+    ensures table { IfOk result (λ r. PutsClasses (map (class_text_of symbols.new) r.0.items) symbols.old symbols.new) }
     ensures stops { IfErr result (λ stop. StopsAt (between []) text.now stop) }
     ensures grows { Grows symbols.old symbols.new }
     ensures few_at_most { length symbols.new ≤ length symbols.old + length text.now }
@@ -180,6 +187,7 @@ fn classes_in<'a>(
 fn lines_in(alloc: Global, text: &str, symbols: &mut Symbols) -> Result<Vec<ClassTrees>, Stop>
     requires { length text.now ≤ 1048576 }
     ensures classes { IfOk result (λ classes. AreReadClasses symbols.new text.now classes.items) }
+    ensures table { IfOk result (λ classes. PutsClasses (map (class_text_of symbols.new) classes.items) symbols.old symbols.new) }
     ensures stops { IfErr result (λ stop. StopsAt begins text.now stop) }
     ensures grows { Grows symbols.old symbols.new }
     ensures few_at_most { length symbols.new ≤ length symbols.old + length text.now }
@@ -214,6 +222,7 @@ fn judged_lines(
 ) -> Result<Vec<ClassTrees>, ReadRefusal>
     requires { length text.now ≤ 1048576 }
     ensures answer { IsLinesAnswer text.now symbols.new result }
+    ensures table { IfOk result (λ classes. PutsClasses (map (class_text_of symbols.new) classes.items) symbols.old symbols.new) }
     ensures grows { Grows symbols.old symbols.new }
     ensures few_at_most { length symbols.new ≤ length symbols.old + length text.now }
 {
@@ -226,8 +235,9 @@ fn judged_lines(
 
 /// The classes that a grammar text has, of at most 1,048,576 bytes: the classes of which just these
 /// bytes are written, in the order of the text, each with its trees and whether it was cut. Names are
-/// numbers of the table, which keeps all of its texts and gets at most as many new ones as there are
-/// bytes, also where the text is refused.
+/// numbers of the table, which gets the names of the classes and what their trees name in the order of
+/// the text, as far as it lacks them. It keeps all of its texts and gets at most as many new ones as
+/// there are bytes, also where the text is refused.
 ///
 /// A text that isn't UTF-8 is refused as `NotUtf8`. One whose first line says another version than 1,
 /// as a decimal of at most nine digits, is refused as `Version` with that number, whatever follows. It
@@ -244,7 +254,7 @@ pub fn read_grammar(
     symbols: &mut Symbols,
 ) -> Result<Vec<ClassTrees>, ReadRefusal>
     requires { length bytes.now ≤ 1048576 }
-    ensures answer { IsGrammarAnswer bytes.now symbols.new result }
+    ensures answer { IsGrammarAnswer bytes.now symbols.old symbols.new result }
     ensures grows { Grows symbols.old symbols.new }
     ensures few { length symbols.new ≤ length symbols.old + length bytes.now }
 {

@@ -1,6 +1,10 @@
-use Rattle.std.proofs.Common.{◌≡◌, [], ◌∷◌, ◌++◌, refl, arith, rules, subst, sym}
+use Rattle.std.proofs.Common.{◌≡◌, [], ◌∷◌, ◌++◌, refl, arith, rules, subst, sym, map}
 use Rattle.gr_base.specs.Lists.{IsAmong}
 use Rattle.gr_symbols.proofs.NumberLemmas.{Grows-trans, Names-grows}
+use Rattle.td_canon.specs.TreeSets.{texts_of}
+use Rattle.tg_text.proofs.Putting.{classes_put}
+use Rattle.tg_text.specs.GrammarText.{class_text_of}
+use Rattle.tg_text.specs.Naming.{PutsClasses, PutsTrees}
 use Rattle.tg_text.specs.Reading.{HasClasses}
 use Rattle.tg_text.proofs.ClassRows.{class_again, class_line_long, class_more, class_stops, has_stays, numbers_more, numbers_of}
 use Rattle.tg_text.proofs.TreeRows.{same_error, when_false, when_true}
@@ -48,6 +52,11 @@ row-preserved c =
           (class_more c.row.symbols texts cs found c.in_ok-class.class c.in-Some.name.now c.args.text.now c.row.rest.now c.in-Some.more.now c.in_ok-found.end.now c.row.invariant.has grows c.is_table-in-Some.ensures.once
           (Names-grows c.intern.new.self texts c.in_ok-class.class.0 c.in-Some.name.now c.in_ok-class.ensures.named c.body_in.ensures.grows) c.in-Some.ensures.0 c.in-Some.ensures.1 (λ i. new.0 (subst (λ ks. IsAmong ks c.in_ok-class.class.0) (sym c.row.invariant.known) i))
           c.in_ok-found.ensures.class c.in_ok-found.ensures.body);
+      table =
+          subst (λ ds. PutsClasses (map (class_text_of texts) ds) c.args.symbols.now texts) (sym pushed)
+          (classes_put c.row.symbols texts cs found c.in_ok-class.class c.in-Some.name.now c.args.symbols.now grows c.row.invariant.has.each
+          (Names-grows c.intern.new.self texts c.in_ok-class.class.0 c.in-Some.name.now c.in_ok-class.ensures.named c.body_in.ensures.grows) c.in_ok-found.ensures.class c.row.invariant.table
+          (subst (λ z. PutsTrees (texts_of found.trees) z texts) c.in_ok-class.ensures.table c.in_ok-found.ensures.table));
       known = subst (λ ds. c.note.new.known.keys ≡ numbers_of ds) (sym pushed) (numbers_more c.row.known.keys c.note.new.known.keys cs found c.in_ok-class.class c.row.invariant.known new.1 c.in_ok-found.ensures.class);
       grows = Grows-trans c.args.symbols.now c.row.symbols texts c.row.invariant.grows grows;
       utf8 = search rules;

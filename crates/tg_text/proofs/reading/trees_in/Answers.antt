@@ -1,5 +1,6 @@
 use Rattle.std.proofs.Common.{◌+◌, refl, arith, rules}
 use Rattle.gr_symbols.proofs.NumberLemmas.{Grows-trans}
+use Rattle.tg_text.proofs.Putting.{trees_put}
 use Rattle.tg_text.proofs.GrownTrees.{trees_stay}
 use Rattle.tg_text.proofs.TreeRows.{split_more, tree_is_bad, tree_line_long, trees_ended, when_false, when_true}
 use Rattle.tg_text.proofs.reading.trees_in.Goals as goal
@@ -19,6 +20,7 @@ row-preserved c =
     let line = tree_line_long (c.len.result + 1) c.row.rest.now c.in-Some.tree.now c.in-Some.more.now c.in-Some.ensures.1 in
     record {
       read = t.2;
+      table = trees_put c.row.trees c.add_tree.new.trees t.0 c.in-Some.tree.now c.args.symbols.now c.row.symbols c.add_tree.new.symbols t.1 c.row.invariant.table (when_true c.in_ok-add_tree.field-0 c.if-not-branch.false c.in_ok-add_tree.ensures.table);
       split = split_more c.row.trees c.add_tree.new.trees t.0 c.args.text.now c.row.rest.now c.in-Some.tree.now c.in-Some.more.now c.len.result c.len.ensures.number c.row.invariant.split c.in-Some.ensures.1 t.1;
       grows = Grows-trans c.args.symbols.now c.row.symbols c.add_tree.new.symbols c.row.invariant.grows c.add_tree.ensures.grows;
       utf8 = search rules;

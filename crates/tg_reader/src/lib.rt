@@ -4,16 +4,20 @@
 //!
 //! `specs/Writable` says which names and trees a text can say (`IsWritableTree`), and which texts are
 //! canonical texts of trees (`IsTreeText`): those of any tree of at most 24 nodes that can be written,
-//! by any table of names.
+//! by any table of names. `specs/Naming` says which texts such a tree names, in the order in which its
+//! text has them (`names_in`), and that a table gets these and nothing else (`PutsTreeNames`).
 //!
 //! # Contract for the crates above
 //!
-//! [`read_tree`] gives a tree whose canonical text the text is, or says that it is that of no tree.
+//! - [`read_tree`] gives a tree whose canonical text the text is, and the table with the texts that the
+//!   tree names; or it says that the text is that of no tree.
+//! - [`laws`]: the text tells which texts the tree names, so that the table behind it is one.
 //!
 //! # How it is done
 //!
 //! The reader is loose: it takes every canonical text, and others as well, and each part of it only has
-//! to undo what writing does (`Undoes` in `specs/Reading`). `rules` then looks at the nodes' own bags,
+//! to undo what writing does (`Undoes` in `specs/Reading`) and to put the names of that part into the
+//! table (`Gets`). `rules` then looks at the nodes' own bags,
 //! which a text says by a category and braces. At last the tree that was read is written again, and
 //! only where that gives the text, byte by byte, was it the tree's.
 #![tactic(auto)]
@@ -57,8 +61,8 @@ fn has_first_texts(symbols: &Symbols)
 }
 
 /// The tree whose canonical text this is, or `None` exactly where it is the canonical text of no tree
-/// that can be written. Names are numbers of the table, which only grows, also where there is no
-/// tree.
+/// that can be written. Names are numbers of the table, which gets what the tree names, as far as it
+/// lacks it, in the order of the text. Where there is no tree the table only grows.
 pub fn read_tree(alloc: Global, text: &str, symbols: &mut Symbols) -> Result<Option<Tree>, Memory>
     requires { length text.now ≤ 1048576 }
     ensures tree { IfOk result (λ found. IfSome found (λ t. HasText symbols.new t text.now)) }

@@ -8,9 +8,13 @@
 //! - `specs/Lines` says which line may stand behind others (`Follows`), by where these lead: a class
 //!   comes with a name that is new, a tree with the next number and a text that is greater than those
 //!   before it, a closing line with how many trees there are.
-//! - `specs/Answers` says which answer is right for bytes (`IsGrammarAnswer`): classes whose text the
-//!   bytes are, or the first of four refusals. The bytes are no UTF-8; they have another version; they
-//!   are no text of the grammar (`tg_syntax`); or a line may not stand where it stands, the first one.
+//! - `specs/Naming` says which texts classes put into the table of names, in the order of the text
+//!   (`PutsClasses`): each the name of the class, and then what its trees name.
+//! - `specs/Answers` says which answer is right for bytes by one table (`IsGrammarReading`): classes
+//!   whose text the bytes are, or the first of four refusals. The bytes are no UTF-8; they have another
+//!   version; they are no text of the grammar (`tg_syntax`); or a line may not stand where it stands,
+//!   the first one. `IsGrammarAnswer` says the same of the tables before and behind the reading, and
+//!   that behind classes the table got what they name, and nothing else.
 //!
 //! # How it is done
 //!
@@ -25,8 +29,8 @@
 //! - [`write_grammar`] gives just the bytes of `grammar_text`, from the texts that stand in the tree
 //!   sets beside the trees, or answers want of memory.
 //! - [`read_grammar`] gives the right answer. The table of texts only grows, by no more texts than
-//!   there are bytes.
-//! - [`laws`]: one answer is right, and what was written is read back.
+//!   there are bytes, also where the text is refused.
+//! - [`laws`]: one answer is right, and behind classes one table; what was written is read back.
 //! - [`obeys::written_text_obeys`]: what is written is a text of the grammar of grammar text, in which
 //!   no property breaks the rule, where the classes can be written.
 #![tactic(auto)]

@@ -75,14 +75,14 @@ properties_can : (text : ℕ → List ℕ) (ps : Pairs) → CanReadPairs text ps
 properties_can text ps can = Each-members (CanReadPair text) (properties ps) (λ p i. Each-at (CanReadPair text) ps p can (properties_from ps p i).0)
 
 -- a variable's place is not behind those that were met
-place_within : (v : ℕ) (met : List ℕ) → place v met ≤ length met
+pub place_within : (v : ℕ) (met : List ℕ) → place v met ≤ length met
 place_within v met = by (is_met v met) refl
   where
     by : (b : Bool) → is_met v met ≡ b → place v met ≤ length met
     by true e = let h : place v met < length met = (stands_in v met [] e).within in omega arith
     by false e = let h : place v met ≡ length met = place-absent v met e in omega arith
 
-size-map : {A B : Type 0} (f : A → B) (g : Forest A) → size (map_forest f g) ≡ size g
+pub size-map : {A B : Type 0} (f : A → B) (g : Forest A) → size (map_forest f g) ≡ size g
 size-map f empty = refl
 size-map f (tree a kids more) = omega (arith, size-map f kids, size-map f more)
 

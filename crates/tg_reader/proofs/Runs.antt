@@ -5,7 +5,7 @@ use Rattle.std.specs.Int.{IsInRange}
 use Rattle.std.specs.Str.Parse.{AllDigits}
 use Rattle.std.proofs.Common.{inl, inr, ap, ap₂, sym, ◌∙◌, subst, arith}
 use Rattle.std.proofs.Math.Seq.{drop-cons}
-use Rattle.std.proofs.lemmas.Bool.{false≢true}
+use Rattle.std.proofs.lemmas.Bool.{false≢true, and_parts, or_cases, or_left, or_right}
 use Rattle.std.proofs.lemmas.Bool.Decides.{nat_tests}
 use Rattle.std.proofs.lemmas.Fmt.{IsAscii-decimal, decimal_is_IsNumeral}
 use Rattle.std.proofs.lemmas.List.{length-take-le, take-append-drop, take_more}
@@ -63,27 +63,11 @@ module _ (run : Run) (bs : List ℕ) (n : ℕ) (each : AllOf run (take n bs)) (e
 
 -- ---- they can be written
 
-or_split : (a b : Bool) → (a || b) ≡ true → (a ≡ true) ⊎ (b ≡ true)
-or_split true b h = inl refl
-or_split false b h = inr h
-
-and_split : (a b : Bool) → (a && b) ≡ true → (a ≡ true) × (b ≡ true)
-and_split true b h = (refl, h)
-and_split false b h = absurd (false≢true h)
-
-or_left : (a b : Bool) → a ≡ true → (a || b) ≡ true
-or_left true b h = refl
-or_left false b h = absurd (false≢true h)
-
-or_right : (a b : Bool) → b ≡ true → (a || b) ≡ true
-or_right true b h = refl
-or_right false b h = h
-
 word_byte : (b : ℕ) → is_word_byte b ≡ true → IsStringByte b
 word_byte b h = (grind (arith, nat_tests), grind (arith, nat_tests), grind (arith, nat_tests), grind (arith, nat_tests))
 
 string_byte : (run : Run) (b : ℕ) → is_of run b ≡ true → IsStringByte b
-string_byte Word b h = elim (or_split (is_word_byte b) (b == 45) h) [
+string_byte Word b h = elim (or_cases (is_word_byte b) (b == 45) h) [
   | inl w ↦ word_byte b w
   | inr d ↦ (grind (arith, nat_tests), grind (arith, nat_tests), grind (arith, nat_tests), grind (arith, nat_tests))
 ]
@@ -112,21 +96,21 @@ inside_run t name = record { each = inside_bytes t name.bytes; few = name.few; u
 letters : (bs : List ℕ) → is_word_rest bs ≡ true → AllOf Word bs
 letters [] h = tt
 letters (b ∷ bs) h =
-    let both = and_split (is_word_byte b || ((b == 45) && begins_with_word_byte bs)) (is_word_rest bs) h in (
-      elim (or_split (is_word_byte b) ((b == 45) && begins_with_word_byte bs) both.0) [
+    let both = and_parts (is_word_byte b || ((b == 45) && begins_with_word_byte bs)) (is_word_rest bs) h in (
+      elim (or_cases (is_word_byte b) ((b == 45) && begins_with_word_byte bs) both.0) [
         | inl w ↦ or_left (is_word_byte b) (b == 45) w
-        | inr d ↦ or_right (is_word_byte b) (b == 45) (and_split (b == 45) (begins_with_word_byte bs) d).0
+        | inr d ↦ or_right (is_word_byte b) (b == 45) (and_parts (b == 45) (begins_with_word_byte bs) d).0
       ],
       letters bs both.1,
     )
 
 -- a word
 pub word_run : (t : List ℕ) → IsWord t → IsRun Word t
-word_run t is = record { each = letters t (and_split (begins_with_word_byte t) (is_word_rest t) is.word).1; few = is.name.few; utf8 = is.name.utf8 }
+word_run t is = record { each = letters t (and_parts (begins_with_word_byte t) (is_word_rest t) is.word).1; few = is.name.few; utf8 = is.name.utf8 }
 
 pub word_some : (t : List ℕ) → is_word t ≡ true → (b : ℕ) × (bs : List ℕ) × (t ≡ b ∷ bs) × (is_word_byte b ≡ true)
 word_some [] h = absurd (false≢true h)
-word_some (b ∷ bs) h = (b, bs, refl, (and_split (is_word_byte b) (is_word_rest (b ∷ bs)) h).0)
+word_some (b ∷ bs) h = (b, bs, refl, (and_parts (is_word_byte b) (is_word_rest (b ∷ bs)) h).0)
 
 digit_letters : (ds : List ℕ) → AllDigits 10 ds → AllOf Word ds
 digit_letters [] h = tt

@@ -8,6 +8,7 @@ use Rattle.gr_base.specs.Forests.{Forest, empty, tree, labels}
 use Rattle.gr_text.specs.Words.{is_word, quoted}
 use Rattle.gr_terms.specs.Canonical.{Decorated, Label, Literal, Node, Pairs, category, literal_terms, named, node_values, numbered, properties, values, walked}
 use Rattle.td_canon.specs.TreeText.{category_text, decorated_text, enclosed, label_text, literal_text, node_text, pair_texts, tree_texts}
+use Rattle.tg_reader.proofs.Rows.{gathered-append}
 use Rattle.tg_reader.proofs.Held.{category_short}
 use Rattle.tg_reader.proofs.Runs.{word_some}
 
@@ -25,10 +26,6 @@ enclosed_length : (before : List ℕ) (between : ℕ) (after : List ℕ) (xs : L
 enclosed_length before between after [] = omega arith
 enclosed_length before between after (x ∷ xs) =
     omega (arith, length-append (before ++ join_with_byte between (x ∷ xs)) after, length-append before (join_with_byte between (x ∷ xs)))
-
-gathered-append : {A B : Type 0} (f : A → List B) (xs ys : List A) → length (gathered f (xs ++ ys)) ≡ length (gathered f xs) + length (gathered f ys)
-gathered-append f [] ys = omega arith
-gathered-append f (x ∷ xs) ys = omega (arith, length-append (f x) (gathered f (xs ++ ys)), length-append (f x) (gathered f xs), gathered-append f xs ys)
 
 module _ (text : ℕ → List ℕ) where
   label_some : (v : Label) → 1 ≤ length (label_text text v)
@@ -96,7 +93,8 @@ module _ (text : ℕ → List ℕ) where
         length-append (node_text text n) inner,
         join_more 32 (node_text text n ++ inner) (tree_texts text more),
         length-append (node_values n) (gathered node_values (labels kids ++ labels more)),
-        gathered-append node_values (labels kids) (labels more),
+        ap (λ (z : List Label). length z) (gathered-append node_values (labels kids) (labels more)),
+        length-append (gathered node_values (labels kids)) (gathered node_values (labels more)),
       )
 
   -- ---- literals

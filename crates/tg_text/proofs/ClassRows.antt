@@ -13,6 +13,7 @@ use Rattle.td_canon.specs.TreeSets.{texts_of}
 use Rattle.td_canon.specs.declared.tree_set.ClassTrees.{ClassTrees}
 use Rattle.td_canon.proofs.OrderLemmas.{texts_apart}
 use Rattle.td_canon.proofs.ValueLemmas.{text_in-names}
+use Rattle.tg_reader.proofs.Rows.{gathered-append}
 use Rattle.tg_reader.specs.Writable.{IsTable, IsWord}
 use Rattle.tg_text.specs.Answers.{IsReadClass}
 use Rattle.tg_text.specs.GrammarText.{ClassText, class_text, class_text_of, closing_word, ended, tree_lines}
@@ -92,10 +93,6 @@ module _ (texts : List (List ℕ)) (table : IsTable texts) (cs : List ClassTrees
 
 -- ---- one class more
 
-gathered-push : {A : Type 0} (f : A → List ℕ) (xs : List A) (x : A) → gathered f (xs ++ x ∷ []) ≡ gathered f xs ++ f x
-gathered-push f [] x = append-nil (f x)
-gathered-push f (y ∷ xs) x = ap (λ z. f y ++ z) (gathered-push f xs x) ∙ sym (append_assoc (f y) (gathered f xs) (f x))
-
 pub class_more : (old texts : List (List ℕ)) (cs : List ClassTrees) (found : ClassTrees) (class : Sym) (name text rest more end : List ℕ) → HasClasses old cs text rest → Grows old texts → NoneTwice texts
     → Names texts class.0 name → IsWord name → rest ≡ ended (codes "class " ++ name) ++ more → (IsAmong (numbers_of cs) class.0 → ⊥) → found.class ≡ class → HasBody texts found more end → HasClasses texts (cs ++ found ∷ []) text end
 class_more old texts cs found class name text rest more end h grows once named word e new class_is body =
@@ -110,7 +107,7 @@ class_more old texts cs found class name text rest more end h grows once named w
     let this : head ++ more ≡ class_text (class_text_of texts found) ++ end =
     ap (λ z. head ++ z) (body.split ∙ append_assoc trees last end) ∙ sym (append_assoc head trees (last ++ end)) ∙ sym (append_assoc (head ++ trees) last end) ∙ ap (λ z. ((ended (codes "class " ++ z) ++ trees) ++ last) ++ end) (sym is) in
     let all : gathered class_text (written texts (cs ++ found ∷ [])) ≡ gathered class_text (written texts cs) ++ class_text (class_text_of texts found) =
-    ap (λ ws. gathered class_text ws) (map-append (class_text_of texts) cs (found ∷ [])) ∙ gathered-push class_text (written texts cs) (class_text_of texts found) in
+    ap (λ ws. gathered class_text ws) (map-append (class_text_of texts) cs (found ∷ [])) ∙ gathered-append class_text (written texts cs) (class_text_of texts found ∷ []) ∙ ap (λ z. gathered class_text (written texts cs) ++ z) (append-nil (class_text (class_text_of texts found))) in
     record {
       each = Each-append (IsReadClass texts) cs (found ∷ []) stays.each (one, tt);
       once =

@@ -4,7 +4,7 @@ use Rattle.std.specs.Fmt.{decimal}
 use Rattle.std.specs.Str.{IsUtf8}
 use Rattle.std.specs.Str.Parse.{digits_value}
 use Rattle.std.proofs.Common.{inl, inr, ap, sym, ◌∙◌, subst, arith, append_assoc, Bor}
-use Rattle.std.proofs.lemmas.Bool.{false≢true, eqb-true, leb-true}
+use Rattle.std.proofs.lemmas.Bool.{false≢true, eqb-true, leb-true, and_parts, or_cases}
 use Rattle.gr_base.specs.Lists.{Each}
 use Rattle.gr_base.proofs.ListLemmas.{same_head, same_tail}
 use Rattle.gr_text.specs.Decimals.{IsDecimal}
@@ -108,17 +108,9 @@ first_split text (Some x) h = (lacks_by_place 10 x.0.now h.1, h.0 ∙ sym (appen
 
 -- ---- words
 
-or_cases : (a b : Bool) → (a || b) ≡ true → (a ≡ true) ⊎ (b ≡ true)
-or_cases true b h = inl refl
-or_cases false b h = inr h
-
-and_cases : (a b : Bool) → (a && b) ≡ true → (a ≡ true) × (b ≡ true)
-and_cases true b h = (refl, h)
-and_cases false b h = absurd (false≢true h)
-
 -- a number in a range, by the tests
 in_range : (low high b : ℕ) → (nat_le low b && nat_le b high) ≡ true → (low ≤ b) × (b ≤ high)
-in_range low high b h = let two = and_cases (nat_le low b) (nat_le b high) h in (leb-true low b two.0, leb-true b high two.1)
+in_range low high b h = let two = and_parts (nat_le low b) (nat_le b high) h in (leb-true low b two.0, leb-true b high two.1)
 
 string_word_byte : (b : ℕ) → is_word_byte b ≡ true → IsStringByte b
 string_word_byte b h = by (or_cases ((((nat_le 48 b && nat_le b 57) || (nat_le 65 b && nat_le b 90)) || (nat_le 97 b && nat_le b 122)) || (b == 95)) (nat_le 128 b) h)
@@ -151,12 +143,12 @@ string_word_byte b h = by (or_cases ((((nat_le 48 b && nat_le b 57) || (nat_le 6
 
 string_rest : (bs : List ℕ) → is_word_rest bs ≡ true → Each IsStringByte bs
 string_rest [] h = tt
-string_rest (b ∷ bs) h = by (and_cases (is_word_byte b || ((b == 45) && begins_with_word_byte bs)) (is_word_rest bs) h) (string_rest bs)
+string_rest (b ∷ bs) h = by (and_parts (is_word_byte b || ((b == 45) && begins_with_word_byte bs)) (is_word_rest bs) h) (string_rest bs)
   where
     here : (is_word_byte b ≡ true) ⊎ (((b == 45) && begins_with_word_byte bs) ≡ true) → IsStringByte b
     here (inl k) = string_word_byte b k
     here (inr k) =
-        let is : b ≡ 45 = eqb-true b 45 (and_cases (b == 45) (begins_with_word_byte bs) k).0 in
+        let is : b ≡ 45 = eqb-true b 45 (and_parts (b == 45) (begins_with_word_byte bs) k).0 in
         (omega arith, λ e. absurd (omega (arith, e)), λ e. absurd (omega (arith, e)), λ e. absurd (omega (arith, e)))
 
     by : ((is_word_byte b || ((b == 45) && begins_with_word_byte bs)) ≡ true) × (is_word_rest bs ≡ true) → (is_word_rest bs ≡ true → Each IsStringByte bs) → Each IsStringByte (b ∷ bs)
@@ -167,7 +159,7 @@ pub word_is : (b : Bool) (t : List ℕ) → length t ≤ 255 → IsUtf8 t → (I
 word_is b t few utf8 bare = (
   λ h.
       let word : is_word t ≡ true = (IsBareWord-test t).1 (bare.0 h) in
-      record { name = record { bytes = string_rest t (and_cases (begins_with_word_byte t) (is_word_rest t) word).1; few = few; utf8 = utf8 }; word = word },
+      record { name = record { bytes = string_rest t (and_parts (begins_with_word_byte t) (is_word_rest t) word).1; few = few; utf8 = utf8 }; word = word },
   λ w. bare.1 ((IsBareWord-test t).0 w.word),
 )
 

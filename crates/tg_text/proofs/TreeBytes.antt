@@ -4,7 +4,7 @@ use Rattle.std.specs.Fmt.{decimal, digits, digits_onto, digit_glyph}
 use Rattle.std.specs.List.{join_with_byte}
 use Rattle.std.specs.Str.{IsUtf8}
 use Rattle.std.proofs.Common.{inl, inr, sym, ◌∙◌, subst, arith}
-use Rattle.std.proofs.lemmas.Bool.{false≢true, leb-true}
+use Rattle.std.proofs.lemmas.Bool.{false≢true, leb-true, and_parts}
 use Rattle.std.proofs.lemmas.Str.{IsUtf8-append, IsUtf8-from_ascii, IsUtf8-nil}
 use Rattle.gr_base.specs.Lists.{IsAmong, Each, gathered}
 use Rattle.gr_base.specs.Forests.{Forest, empty, tree, AreAlike, labels, map_forest, size}
@@ -45,10 +45,6 @@ abbrev pub are_plain : List ℕ → Bool
 are_plain [] = true
 are_plain (b ∷ bs) = nat_le 32 b && (nat_le b 127 && are_plain bs)
 
-and_cases : (a b : Bool) → (a && b) ≡ true → (a ≡ true) × (b ≡ true)
-and_cases true b h = (refl, h)
-and_cases false b h = absurd (false≢true h)
-
 fine_byte : (b : ℕ) → 32 ≤ b → b ≤ 127 → IsFine (b ∷ [])
 fine_byte b low high = record { high = (low, tt); utf8 = IsUtf8-from_ascii (b ∷ []) (λ i. at i) }
   where
@@ -59,8 +55,8 @@ fine_byte b low high = record { high = (low, tt); utf8 = IsUtf8-from_ascii (b �
 pub plain : (bs : List ℕ) → are_plain bs ≡ true → IsFine bs
 plain [] h = fine_nil
 plain (b ∷ bs) h =
-    let low = and_cases (nat_le 32 b) (nat_le b 127 && are_plain bs) h in
-    let high = and_cases (nat_le b 127) (are_plain bs) low.1 in
+    let low = and_parts (nat_le 32 b) (nat_le b 127 && are_plain bs) h in
+    let high = and_parts (nat_le b 127) (are_plain bs) low.1 in
     fine_append (b ∷ []) bs (fine_byte b (leb-true 32 b low.0) (leb-true b 127 high.0)) (plain bs high.1)
 
 high_lacks : (bytes : List ℕ) → Each (λ b. 32 ≤ b) bytes → Lacks 10 bytes

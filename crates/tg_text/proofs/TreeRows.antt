@@ -17,14 +17,6 @@ use Rattle.tg_text.specs.Reading.{AreReadTrees, HasTrees, IsBadLine}
 use Rattle.tg_text.proofs.Stopping.{bad_in_class, tree_breaks}
 use Rattle.tg_text.proofs.TreeBytes.{tree_text_line}
 
-pub when_false : {P : Type 0} (b : Bool) → b ≡ false → OnFalse b P → P
-when_false false e h = h
-when_false true e h = absurd (true≢false e)
-
-pub when_true : {P : Type 0} (b : Bool) → b ≡ true → OnTrue b P → P
-when_true true e h = h
-when_true false e h = absurd (false≢true e)
-
 -- an error that was handed on is the one that came
 pub same_error : {A E : Type 0} (G : E → Type 0) (r : Result A E) (e : E) → ((x : E) → G x → x ≡ e) → IsErr r × IsErrAnd r G → r ≡ Err e
 same_error G (Ok a) e is h = absurd h.1

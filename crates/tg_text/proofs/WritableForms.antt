@@ -37,48 +37,11 @@ use Rattle.td_canon.proofs.TextLemmas.{ordered_lists, ordered_pairs}
 use Rattle.td_canon.proofs.UniqueForms.{one_form}
 use Rattle.tg_syntax.specs.Breaks.{reserved, marks}
 use Rattle.tg_reader.specs.Writable.{IsMark, IsTable, IsWritableLiteral, IsWritableNode, IsWritableOwn, IsWritablePair, IsWritableTerm, IsWritableTree}
+use Rattle.tg_reader.proofs.Held.{category_from, properties_from}
+use Rattle.tg_reader.proofs.Readable.{one-map, place_within, size-map}
+use Rattle.tg_reader.proofs.WalkLengths.{walk_length}
 use Rattle.tg_text.proofs.FileTexts.{IsTaken}
 use Rattle.tg_text.proofs.FormTexts.{CanWrite, CanWriteForm, CanWriteLiteral, CanWriteNode, CanWritePair, CanWriteProperty, form_takes}
-use Rattle.tg_text.proofs.SizeLemmas.{walked_size}
-
--- ---- members of the category and of the properties
-
-category_member : (ps : Pairs) (v : Label) → IsAmong (category ps) v → (p : ℕ × Label) × IsAmong ps p × (v ≡ p.1)
-category_member [] v i = absurd i
-category_member (p ∷ ps) v i = by (p.0 == CAT) i (category_member ps v)
-  where
-    by : (b : Bool) → IsAmong (if b then (p.1 ∷ []) else category ps) v → (IsAmong (category ps) v → (q : ℕ × Label) × IsAmong ps q × (v ≡ q.1)) → (q : ℕ × Label) × IsAmong (p ∷ ps) q × (v ≡ q.1)
-    by true (inl e) later = (p, inl refl, e)
-    by true (inr j) later = absurd j
-    by false j later = let r = later j in (r.0, inr r.1, r.2)
-
-property_member : (ps : Pairs) (q : ℕ × Label) → IsAmong (properties ps) q → IsAmong ps q × (q.0 ≡ CAT → ⊥)
-property_member [] q i = absurd i
-property_member (p ∷ ps) q i = by (p.0 == CAT) refl i (property_member ps q)
-  where
-    by : (b : Bool) → (p.0 == CAT) ≡ b → IsAmong (if b then properties ps else (p ∷ properties ps)) q → (IsAmong (properties ps) q → IsAmong ps q × (q.0 ≡ CAT → ⊥)) → IsAmong (p ∷ ps) q × (q.0 ≡ CAT → ⊥)
-    by true e j later = let r = later j in (inr r.0, r.1)
-    by false e (inl h) later = (inl h, λ c. false≢true (sym e ∙ (Decides-eqb p.0 CAT).1 (ap (λ (z : ℕ × Label). z.0) (sym h) ∙ c)))
-    by false e (inr j) later = let r = later j in (inr r.0, r.1)
-
--- ---- forests
-
-size-map : {A B : Type 0} (g : A → B) (f : Forest A) → size (map_forest g f) ≡ size f
-size-map g empty = refl
-size-map g (tree a kids more) = (λ i. suc (size-map g kids i + size-map g more i))
-
-one_map : {A B : Type 0} (g : A → B) (f : Forest A) → IsOneTree f → IsOneTree (map_forest g f)
-one_map g empty one = absurd one
-one_map g (tree a kids empty) one = tt
-one_map g (tree a kids (tree b under more)) one = absurd one
-
--- a variable's number is at most one more than those that are met
-place_within : (v : ℕ) (met : List ℕ) → place v met ≤ length met
-place_within v met = by (is_met v met) refl
-  where
-    by : (b : Bool) → is_met v met ≡ b → place v met ≤ length met
-    by true e = let h : place v met < length met = (stands_in v met [] e).within in omega (arith, h)
-    by false e = let h : place v met ≡ length met = place-absent v met e in omega (arith, h)
 
 module _ (texts : List (List ℕ)) (table : IsTable texts) where
   abbrev text : ℕ → List ℕ
@@ -182,14 +145,13 @@ module _ (texts : List (List ℕ)) (table : IsTable texts) where
     write_category : (bag : BagPairs) → Each (IsWritableOwn texts) bag → Each (CanWrite text) (category (pairs_in bag))
     write_category bag h =
         Each-members (CanWrite text) (category (pairs_in bag)) (λ v i.
-        let c = category_member (pairs_in bag) v i in
-        let r = from_bag bag c.0 c.1 in
-        subst (CanWrite text) (sym (c.2 ∙ ap (λ (z : ℕ × Label). z.1) r.2)) (write_term r.0.1 (Each-at (IsWritableOwn texts) bag r.0 h r.1).pair.value))
+        let r = from_bag bag (CAT, v) (category_from (pairs_in bag) v i) in
+        subst (CanWrite text) (sym (ap (λ (z : ℕ × Label). z.1) r.2)) (write_term r.0.1 (Each-at (IsWritableOwn texts) bag r.0 h r.1).pair.value))
 
     write_properties : (bag : BagPairs) → IsNamedBag (length texts) bag → Each (IsWritableOwn texts) bag → Each (CanWriteProperty text) (properties (pairs_in bag))
     write_properties bag named h =
         Each-members (CanWriteProperty text) (properties (pairs_in bag)) (λ q i.
-        let c = property_member (pairs_in bag) q i in
+        let c = properties_from (pairs_in bag) q i in
         let r = from_bag bag q c.0 in
         let n = Each-at (λ (z : Sym × Value). (z.0.0 < length texts) × IsNamedTerm (length texts) z.1) bag r.0 named r.1 in
         subst (CanWriteProperty text) (sym r.2) (write_property r.0 n.0 (Each-at (IsWritableOwn texts) bag r.0 h r.1) (λ e. c.1 (ap (λ (z : ℕ × Label). z.0) r.2 ∙ e))))
@@ -223,7 +185,7 @@ module _ (texts : List (List ℕ)) (table : IsTable texts) where
         let count : size (map_forest (form_node text label) (map_forest lists_of f)) ≡ length t.nodes =
         size-map (form_node text label) (map_forest lists_of f) ∙ size-map lists_of f ∙ sym (length-preorder 0 None f) ∙ ap length (sym laid) in
         record {
-          one = one_map (form_node text label) (map_forest lists_of f) (one_map lists_of f has.nodes.one);
+          one = one-map (form_node text label) (map_forest lists_of f) (one-map lists_of f has.nodes.one);
           few = omega (arith, count, has.nodes.few);
           nodes = write_nodes 0 None f (subst (Each (IsNamedNode (length texts))) laid has.named.nodes) (subst (Each (IsWritableNode texts)) laid h.nodes);
           interface = write_bag t.iface h.iface;
@@ -239,7 +201,7 @@ module _ (texts : List (List ℕ)) (table : IsTable texts) where
       let walk : length (tree_terms text d) ≡ length (map label (tree_terms text d)) = sym (length-map (tree_terms text d) label) in
       let same = ap length (walked-form text label d) in
       let long = ap length (form_is t x has) in
-      omega (arith, length-meet_all [] (tree_terms text d), walk, same, long, walked_size text (form_of text label d))
+      omega (arith, length-meet_all [] (tree_terms text d), walk, same, long, walk_length text (form_of text label d))
 
   pub tree_taken : (t : Tree) (x : List ℕ) → HasText texts t x → IsWritableTree texts t → suc (length x) < 10 ^ 9 → IsTaken x
   tree_taken t x has h few rest =

@@ -2,12 +2,13 @@ use Rattle.std.proofs.Common.{◌≡◌, [], ◌∷◌, ◌++◌, refl, arith, r
 use Rattle.gr_base.specs.Lists.{IsAmong}
 use Rattle.gr_symbols.proofs.NumberLemmas.{Grows-trans, Names-grows}
 use Rattle.td_canon.specs.TreeSets.{texts_of}
+use Rattle.std.proofs.lemmas.Bool.{OnFalse_at, OnTrue_at}
 use Rattle.tg_text.proofs.Putting.{classes_put}
 use Rattle.tg_text.specs.GrammarText.{class_text_of}
 use Rattle.tg_text.specs.Naming.{PutsClasses, PutsTrees}
 use Rattle.tg_text.specs.Reading.{HasClasses}
 use Rattle.tg_text.proofs.ClassRows.{class_again, class_line_long, class_more, class_stops, has_stays, numbers_more, numbers_of}
-use Rattle.tg_text.proofs.TreeRows.{same_error, when_false, when_true}
+use Rattle.tg_text.proofs.TreeRows.{same_error}
 use Rattle.tg_text.proofs.reading.classes_in.Goals as goal
 
 pub returns-then-not-branch-clause-stops : goal.returns-then-not-branch-clause-stops
@@ -15,7 +16,7 @@ returns-then-not-branch-clause-stops c =
     let texts = c.intern.new.self in
     let cs = c.row.classes.items in
     let table = c.is_table.ensures in
-    let there = when_false c.in_ok-note.field-0 c.if-not-branch.true c.in_ok-note.ensures.again in (
+    let there = OnFalse_at {b = c.in_ok-note.field-0} c.if-not-branch.true c.in_ok-note.ensures.again in (
       c.row.rest.now,
       class_again texts table cs c.args.text.now c.row.rest.now (has_stays c.row.symbols texts cs c.args.text.now c.row.rest.now c.in_ok-class.ensures.grows table.once c.row.invariant.has) c.in_ok-class.class.0 c.in-Some.name.now c.in-Some.more.now c.in_ok-class.ensures.named c.in-Some.ensures.0 c.in-Some.ensures.1
           (subst (λ ks. IsAmong ks c.in_ok-class.class.0) c.row.invariant.known there),
@@ -28,7 +29,7 @@ returns-in_err-found-clause-stops c =
     let texts = c.intern.new.self in
     let cs = c.row.classes.items in
     let table = c.is_table.ensures in
-    let new = when_true c.in_ok-note.field-0 c.if-not-branch.false c.in_ok-note.ensures.new in
+    let new = OnTrue_at {b = c.in_ok-note.field-0} c.if-not-branch.false c.in_ok-note.ensures.new in
     rw e
     (class_stops texts table cs c.args.text.now c.row.rest.now (has_stays c.row.symbols texts cs c.args.text.now c.row.rest.now c.in_ok-class.ensures.grows table.once c.row.invariant.has) c.in_ok-class.class.0 c.in-Some.name.now c.in-Some.more.now c.in_err-found.field-0.0 c.in_ok-class.ensures.named
     c.in-Some.ensures.0 c.in-Some.ensures.1 (λ i. new.0 (subst (λ ks. IsAmong ks c.in_ok-class.class.0) (sym c.row.invariant.known) i)) (c.in_err-found.ensures.stops _))
@@ -42,7 +43,7 @@ row-preserved c =
     let texts = c.body_in.new.symbols in
     let cs = c.row.classes.items in
     let grows = Grows-trans c.row.symbols c.intern.new.self texts c.in_ok-class.ensures.grows c.body_in.ensures.grows in
-    let new = when_true c.in_ok-note.field-0 c.if-not-branch.false c.in_ok-note.ensures.new in
+    let new = OnTrue_at {b = c.in_ok-note.field-0} c.if-not-branch.false c.in_ok-note.ensures.new in
     let long = class_line_long c.row.rest.now c.in-Some.name.now c.in-Some.more.now c.in-Some.ensures.1 in
     let found = c.in_ok-found.found in
     let pushed : c.push.new.self.items ≡ cs ++ found ∷ [] = search rules in

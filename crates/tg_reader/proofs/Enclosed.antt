@@ -7,15 +7,11 @@ use Rattle.std.proofs.lemmas.Bool.Decides.{Decides-eqb}
 use Rattle.std.proofs.lemmas.List.{append_cancel_left}
 use Rattle.gr_terms.specs.Canonical.{Pairs}
 use Rattle.td_canon.specs.TreeText.{enclosed, pair_texts}
+use Rattle.td_canon.proofs.SpellingLemmas.{Stops}
 use Rattle.tg_reader.specs.Reading.{CanReadPair, CanReadPairs, Differs, EachOfSome, Ends, IsNodeEnd, IsTreeEnd, is_of}
 use Rattle.tg_reader.specs.declared.reader.Run.{Run}
 
 -- ---- which byte comes first
-
--- nothing, or first a byte that fails
-abbrev pub Stops : (ℕ → Bool) → List ℕ → Type 0
-Stops p [] = ⊤
-Stops p (b ∷ bs) = p b ≡ false
 
 pub stops_ends : (run : Run) (text : List ℕ) → Stops (is_of run) text → Ends run text
 stops_ends run [] h = tt

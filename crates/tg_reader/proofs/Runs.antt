@@ -15,6 +15,7 @@ use Rattle.gr_base.specs.Lists.{Each}
 use Rattle.gr_base.proofs.ListLemmas.{Each-append, same_head, same_tail}
 use Rattle.gr_text.specs.Words.{IsStringByte, begins_with_word_byte, is_word, is_word_byte, is_word_rest}
 use Rattle.gr_text.proofs.DecimalLemmas.{IsDecimal-decimal, IsDecimal-short}
+use Rattle.td_canon.proofs.SpellingLemmas.{span_apart}
 use Rattle.tg_reader.specs.Reading.{Ends, IsRun, is_of}
 use Rattle.tg_reader.specs.Writable.{IsName, IsWord}
 use Rattle.tg_reader.specs.declared.reader.Run.{Run}
@@ -38,22 +39,11 @@ ends_behind run [] (suc i) over = tt
 ends_behind run (b ∷ bs) zero over = absurd (omega arith)
 ends_behind run (b ∷ bs) (suc i) over = ends_behind run bs i (omega arith)
 
--- ---- the bytes in front are fixed
-
-pub span : (run : Run) (xs ys r s : List ℕ) → AllOf run xs → AllOf run ys → Ends run r → Ends run s → xs ++ r ≡ ys ++ s → (xs ≡ ys) × (r ≡ s)
-span run [] [] r s a b u v e = (refl, e)
-span run [] (y ∷ ys) r s a b u v e = absurd (false≢true (sym (subst (Ends run) e u) ∙ b.0))
-span run (x ∷ xs) [] r s a b u v e = absurd (false≢true (sym (subst (Ends run) (sym e) v) ∙ a.0))
-span run (x ∷ xs) (y ∷ ys) r s a b u v e =
-    let first : x ≡ y = same_head x y (xs ++ r) (ys ++ s) e in
-    let rest = span run xs ys r s a.1 b.1 u v (same_tail x y (xs ++ r) (ys ++ s) e) in
-    (ap₂ (λ z zs. z ∷ zs) first rest.0, rest.1)
-
 -- where the first n bytes were taken, and the next one does not stand there
 module _ (run : Run) (bs : List ℕ) (n : ℕ) (each : AllOf run (take n bs)) (ends : Ends run (drop n bs)) where
   pub taken : (v rest : List ℕ) → IsRun run v → Ends run rest → bs ≡ v ++ rest → (drop n bs ≡ rest) × (take n bs ≡ v)
   taken v rest is end e =
-      let both = span run (take n bs) v (drop n bs) rest each is.each ends end (take-append-drop n bs ∙ e) in (both.1, both.0)
+      let both = span_apart (is_of run) (take n bs) v (drop n bs) rest each is.each ends end (take-append-drop n bs ∙ e) in (both.1, both.0)
 
   pub too_long : (v rest : List ℕ) → n ≤ length bs → 255 < n → IsRun run v → Ends run rest → bs ≡ v ++ rest → ⊥
   too_long v rest within long is end e =

@@ -7,10 +7,11 @@ use Rattle.gr_base.specs.Lists.{Each, gathered}
 use Rattle.gr_base.proofs.ListLemmas.{same_head, same_tail}
 use Rattle.gr_terms.specs.Canonical.{Decorated, Label, Literal, Pairs}
 use Rattle.td_canon.specs.TreeText.{decorated_text, enclosed, label_text, literal_text, pair_texts, tree_texts}
-use Rattle.tg_reader.specs.Reading.{CanReadLiteral, Differs, IsTreeEnd}
+use Rattle.td_canon.proofs.SpellingLemmas.{span_apart}
+use Rattle.tg_reader.specs.Reading.{CanReadLiteral, Differs, IsTreeEnd, is_of}
 use Rattle.tg_reader.specs.declared.reader.Run.TheVariants.{Word}
 use Rattle.tg_reader.proofs.LiteralTexts.{arguments_text, literal_regroup}
-use Rattle.tg_reader.proofs.Runs.{span, word_run}
+use Rattle.tg_reader.proofs.Runs.{word_run}
 use Rattle.tg_reader.proofs.Values.{Looks, bare, in_quotes, looks, number}
 
 module _ (text : ℕ → List ℕ) where
@@ -49,7 +50,7 @@ module _ (text : ℕ → List ℕ) where
 
       by : Looks text l.handle → ⊥
       by (bare a is word looks_so) =
-          let both = span Word (text a) (codes "iface") (58 ∷ behind) (91 ∷ more) (word_run (text a) word).each (refl, (refl, (refl, (refl, (refl, tt))))) refl refl (sym (ap (λ t. t ++ 58 ∷ behind) looks_so) ∙ same) in
+          let both = span_apart (is_of Word) (text a) (codes "iface") (58 ∷ behind) (91 ∷ more) (word_run (text a) word).each (refl, (refl, (refl, (refl, (refl, tt))))) refl refl (sym (ap (λ t. t ++ 58 ∷ behind) looks_so) ∙ same) in
           let f : 58 ≡ 91 = same_head 58 91 behind more both.1 in
           omega (arith, f)
       by (in_quotes a is name looks_so) =

@@ -1,4 +1,5 @@
 -- What stands at the front of a text: words, numbers, and lines with their ends.
+use Rattle.std.proofs.lemmas.List.{append_cancel_left}
 use Rattle.std.specs.Prelude.{◌≡◌, ℕ, suc, ◌<◌, ◌≤◌, ◌^◌, ◌↔◌, Bool, true, false, ◌&&◌, ◌||◌, ◌==◌, nat_le, List, [], ◌∷◌, ◌++◌, length, codes, ◌⊎◌, Option, Some, None, MatchOption, SomeIff, IsTrue, get_or, refl}
 use Rattle.std.specs.Fmt.{decimal}
 use Rattle.std.specs.Str.{IsUtf8}
@@ -12,7 +13,6 @@ use Rattle.gr_text.specs.Words.{IsBareWord, IsStringByte, begins_with_word_byte,
 use Rattle.gr_text.proofs.DecimalLemmas.{IsDecimal-decimal, IsDecimal-small, IsDecimal-written, decimal-value}
 use Rattle.gr_text.proofs.WordLemmas.{IsBareWord-test}
 use Rattle.td_canon.specs.Spelling.{Lacks}
-use Rattle.td_canon.proofs.SpellingLemmas.{cancel_front}
 use Rattle.tg_reader.specs.Writable.{IsWord}
 use Rattle.tg_text.specs.Answers.{SaysVersion}
 use Rattle.tg_text.specs.GrammarText.{ended, tree_line}
@@ -62,7 +62,7 @@ tree_front n text tree space rest h = h.0 ∙ ap (λ z. codes "tree " ++ z) (h.1
 -- the same front, so the same behind it
 behind_tree : (n : ℕ) (text rest t more : List ℕ) → text ≡ codes "tree " ++ (decimal n ++ (codes " " ++ rest)) → text ≡ tree_line n t ++ more → rest ≡ ended t ++ more
 behind_tree n text rest t more e f =
-    cancel_front (codes " ") _ _ (cancel_front (decimal n) _ _ (cancel_front (codes "tree ") _ _ (sym e ∙ f ∙ tree_parts n t more)))
+    append_cancel_left (codes " ") _ _ (append_cancel_left (decimal n) _ _ (append_cancel_left (codes "tree ") _ _ (sym e ∙ f ∙ tree_parts n t more)))
 
 abbrev pub IsFirstLine : List ℕ → Option (Bor (List ℕ) × Bor (List ℕ)) → Type 0
 IsFirstLine text r = MatchOption r (Lacks 10 text) (λ p. Lacks 10 p.0.now × (text ≡ ended p.0.now ++ p.1.now))
@@ -78,7 +78,7 @@ tree_found n text tree space rest (Some p) h k =
 -- no space stands behind the number
 pub no_space : (n : ℕ) (text tree space : List ℕ) → text ≡ codes "tree " ++ tree → tree ≡ decimal n ++ space → ((rest : List ℕ) → space ≡ codes " " ++ rest → ⊥) → (t more : List ℕ) → text ≡ tree_line n t ++ more → ⊥
 no_space n text tree space e f none t more g =
-    none (ended t ++ more) (cancel_front (decimal n) _ _ (sym f ∙ cancel_front (codes "tree ") _ _ (sym e ∙ g ∙ tree_parts n t more)))
+    none (ended t ++ more) (append_cancel_left (decimal n) _ _ (sym f ∙ append_cancel_left (codes "tree ") _ _ (sym e ∙ g ∙ tree_parts n t more)))
 
 -- ---- the line that closes a class
 
@@ -90,14 +90,14 @@ IsPast line text r = MatchOption r ((more : List ℕ) → text ≡ line ++ more 
 
 pub count_found : (word : List ℕ) (n : ℕ) (text number end : List ℕ) (r : Option (Bor (List ℕ))) → text ≡ word ++ number → number ≡ decimal n ++ end → IsPast (codes "\n") end r → IsPast (ended (word ++ decimal n)) text r
 count_found word n text number end None e f k = λ more g.
-    k more (cancel_front (decimal n) _ _ (sym f ∙ cancel_front word _ _ (sym e ∙ g ∙ count_parts word n more)))
+    k more (append_cancel_left (decimal n) _ _ (sym f ∙ append_cancel_left word _ _ (sym e ∙ g ∙ count_parts word n more)))
 count_found word n text number end (Some rest) e f k = e ∙ ap (λ z. word ++ z) (f ∙ ap (λ z. decimal n ++ z) k) ∙ sym (count_parts word n rest.now)
 
 pub no_word : (word : List ℕ) (n : ℕ) (text : List ℕ) → ((rest : List ℕ) → text ≡ word ++ rest → ⊥) → (more : List ℕ) → text ≡ ended (word ++ decimal n) ++ more → ⊥
 no_word word n text none more e = none (decimal n ++ 10 ∷ more) (e ∙ count_parts word n more)
 
 pub no_number : (word : List ℕ) (n : ℕ) (text number : List ℕ) → text ≡ word ++ number → ((rest : List ℕ) → number ≡ decimal n ++ rest → ⊥) → (more : List ℕ) → text ≡ ended (word ++ decimal n) ++ more → ⊥
-no_number word n text number e none more f = none (10 ∷ more) (cancel_front word _ _ (sym e ∙ f ∙ count_parts word n more))
+no_number word n text number e none more f = none (10 ∷ more) (append_cancel_left word _ _ (sym e ∙ f ∙ count_parts word n more))
 
 -- ---- the first line
 
@@ -169,7 +169,7 @@ word_too_long t long w = let few : length t ≤ 255 = w.name.few in omega arith
 -- ---- the first line of a class
 
 pub class_line_of : (text rest : List ℕ) → text ≡ codes "class " ++ rest → (name more : List ℕ) → text ≡ ended (codes "class " ++ name) ++ more → rest ≡ ended name ++ more
-class_line_of text rest e name more f = cancel_front (codes "class ") _ _ (sym e ∙ f ∙ line_behind (codes "class ") name more)
+class_line_of text rest e name more f = append_cancel_left (codes "class ") _ _ (sym e ∙ f ∙ line_behind (codes "class ") name more)
 
 pub word_line : (name : List ℕ) → IsWord name → Lacks 10 name
 word_line name w = fine_lacks name (fine_name name w.name)
@@ -188,7 +188,7 @@ no_class_word text rest found behind e lacks f none name more word g =
 
 pub version_line : (text rest : List ℕ) → text ≡ codes "grammar " ++ rest → (n : ℕ) → SaysVersion text n → (more : List ℕ) × (rest ≡ ended (decimal n) ++ more)
 version_line text rest e n says =
-    (says.1.0, cancel_front (codes "grammar ") _ _ (sym e ∙ says.1.1 ∙ append_assoc (codes "grammar ") (decimal n) (10 ∷ says.1.0)) ∙ sym (append_assoc (decimal n) (10 ∷ []) says.1.0))
+    (says.1.0, append_cancel_left (codes "grammar ") _ _ (sym e ∙ says.1.1 ∙ append_assoc (codes "grammar ") (decimal n) (10 ∷ says.1.0)) ∙ sym (append_assoc (decimal n) (10 ∷ []) says.1.0))
 
 pub no_version_line : (text rest : List ℕ) → text ≡ codes "grammar " ++ rest → Lacks 10 rest → (n : ℕ) → SaysVersion text n → ⊥
 no_version_line text rest e lacks n says = let v = version_line text rest e n says in no_line_in (decimal n) v.0 (subst (λ z. Lacks 10 z) v.1 lacks)

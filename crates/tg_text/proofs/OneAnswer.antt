@@ -1,4 +1,5 @@
 -- One answer is right, and what was written is read back.
+use Rattle.std.proofs.lemmas.List.{append_cancel_left}
 use Rattle.std.specs.Prelude.{◌≡◌, ◌≢◌, ℕ, ◌<◌, ◌^◌, List, [], ◌∷◌, ◌++◌, map, length, codes, Result, Ok, Err, ⊤, refl}
 use Rattle.std.specs.Fmt.{decimal}
 use Rattle.std.specs.Str.{IsUtf8, IsValidUpTo}
@@ -14,7 +15,6 @@ use Rattle.gr_grammar.specs.Grammars.{Matches, a_token, both, no_token}
 use Rattle.gr_tokens.specs.declared.ReadRefusal.{ReadRefusal}
 use Rattle.gr_tokens.specs.declared.ReadRefusal.TheVariants as refusal
 use Rattle.td_canon.specs.declared.tree_set.ClassTrees.{ClassTrees}
-use Rattle.td_canon.proofs.SpellingLemmas.{cancel_front}
 use Rattle.tg_reader.specs.Writable.{IsTable}
 use Rattle.tg_syntax.specs.Answers.{IsGrammarFile, IsSyntaxAnswer}
 use Rattle.tg_syntax.specs.Files.{file, system}
@@ -44,7 +44,7 @@ keyword_front (b ∷ bs) _ rest (both (a_token {t = t} {ts = mid} h) m) =
 one_version : (bytes more : List ℕ) → bytes ≡ (codes "grammar 1" ++ 10 ∷ []) ++ more → IsOfVersionOne bytes
 one_version bytes more e n says =
     let rest = says.1.0 in
-    let behind : decimal n ++ 10 ∷ rest ≡ ended (49 ∷ []) ++ more = cancel_front (codes "grammar ") _ _ (sym (append_assoc (codes "grammar ") (decimal n) (10 ∷ rest)) ∙ sym says.1.1 ∙ e) in
+    let behind : decimal n ++ 10 ∷ rest ≡ ended (49 ∷ []) ++ more = append_cancel_left (codes "grammar ") _ _ (sym (append_assoc (codes "grammar ") (decimal n) (10 ∷ rest)) ∙ sym says.1.1 ∙ e) in
     let same : decimal n ≡ 49 ∷ [] =
     (lines_apart (decimal n) (49 ∷ []) rest more (fine_lacks (decimal n) (fine_decimal n)) (plain_lacks (49 ∷ []) refl) (append_assoc (decimal n) (10 ∷ []) rest ∙ behind)).0 in
     sym (decimal-value n says.0) ∙ ap (digits_value 10) (same ∙ sym (decimal_digit 1 (omega arith))) ∙ decimal-value 1 (omega arith)
@@ -62,7 +62,7 @@ same_length bytes m n a b = sym (utf8_valid_len-IsValidUpTo bytes m a) ∙ utf8_
 
 same_versions : (bytes : List ℕ) (m n : ℕ) → SaysVersion bytes m → SaysVersion bytes n → m ≡ n
 same_versions bytes m n a b =
-    let there = cancel_front (codes "grammar ") _ _ (sym (append_assoc (codes "grammar ") (decimal m) (10 ∷ a.1.0)) ∙ sym a.1.1 ∙ b.1.1 ∙ append_assoc (codes "grammar ") (decimal n) (10 ∷ b.1.0)) in
+    let there = append_cancel_left (codes "grammar ") _ _ (sym (append_assoc (codes "grammar ") (decimal m) (10 ∷ a.1.0)) ∙ sym a.1.1 ∙ b.1.1 ∙ append_assoc (codes "grammar ") (decimal n) (10 ∷ b.1.0)) in
     let same : decimal m ≡ decimal n =
     (lines_apart (decimal m) (decimal n) a.1.0 b.1.0 (fine_lacks (decimal m) (fine_decimal m)) (fine_lacks (decimal n) (fine_decimal n))
     (append_assoc (decimal m) (10 ∷ []) a.1.0 ∙ there ∙ sym (append_assoc (decimal n) (10 ∷ []) b.1.0))).0 in

@@ -1,4 +1,5 @@
 -- Which line stands where is determined by the bytes.
+use Rattle.std.proofs.lemmas.List.{append_cancel_left}
 use Rattle.std.specs.Prelude.{◌≡◌, ◌≢◌, ℕ, suc, ◌+◌, ◌-◌, Bool, true, false, cond, ◌==◌, List, [], ◌∷◌, ◌++◌, length, take, codes, refl}
 use Rattle.std.specs.Fmt.{decimal}
 use Rattle.std.specs.List.{count_by}
@@ -10,7 +11,6 @@ use Rattle.gr_base.specs.Lists.{joined}
 use Rattle.gr_base.proofs.ListLemmas.{Each-append}
 use Rattle.gr_text.specs.Places.{is_line_feed, line_after}
 use Rattle.td_canon.specs.Spelling.{Lacks}
-use Rattle.td_canon.proofs.SpellingLemmas.{cancel_front}
 use Rattle.tg_text.specs.Answers.{BreaksOff, IsFirstBadLine}
 use Rattle.tg_text.specs.GrammarText.{closing_word, ended}
 use Rattle.tg_text.specs.Lines.{Follows, Leads, Standing, a_class, a_count, a_line, a_tree, a_version, an_end, begins, inside, no_line, over}
@@ -113,7 +113,7 @@ same_after _ _ _ _ _ (an_end names) (a_class _ a word new) e = absurd (no_end a 
 same_after _ _ _ _ _ (an_end names) (an_end _) e = refl
 same_after _ _ _ _ _ (a_tree names trees t is above) (a_tree _ _ u is' above') e =
     let n = suc (length trees) in
-    let parts = cancel_front (codes " ") _ _ (cancel_front (decimal n) _ _ (cancel_front (codes "tree ") _ _ (sym (tree_parts n t []) ∙ ap (λ z. z ++ []) e ∙ tree_parts n u []))) in
+    let parts = append_cancel_left (codes " ") _ _ (append_cancel_left (decimal n) _ _ (append_cancel_left (codes "tree ") _ _ (sym (tree_parts n t []) ∙ ap (λ z. z ++ []) e ∙ tree_parts n u []))) in
     ap (λ z. inside names (trees ++ z ∷ [])) (lines_apart t u [] [] (tree_text_line t is) (tree_text_line u is') parts).0
 same_after _ _ _ _ _ (a_tree names trees t is above) (a_count _ _ cut) e = absurd (no_closing (suc (length trees)) t [] cut (decimal (length trees)) [] (ap (λ z. z ++ []) e))
 same_after _ _ _ _ _ (a_count names trees cut) (a_tree _ _ t is above) e = absurd (no_closing (suc (length trees)) t [] cut (decimal (length trees)) [] (ap (λ z. z ++ []) (sym e)))

@@ -1,4 +1,5 @@
 -- What is written of classes tells what was written, and one answer is right.
+use Rattle.std.proofs.lemmas.List.{append_cancel_left}
 use Rattle.std.specs.Prelude.{◌≡◌, get_or, zero, ◌<◌, ℕ, suc, Bool, true, false, List, [], ◌∷◌, ◌++◌, length, codes, refl}
 use Rattle.std.specs.Fmt.{decimal}
 use Rattle.std.specs.Str.{IsUtf8}
@@ -6,7 +7,6 @@ use Rattle.std.proofs.Common.{sym, ◌∙◌, arith, append_assoc}
 use Rattle.std.proofs.lemmas.Str.{IsUtf8-append, IsUtf8-from_ascii, IsUtf8-nil}
 use Rattle.gr_base.specs.Lists.{Each, gathered}
 use Rattle.gr_base.proofs.ListLemmas.{same_head}
-use Rattle.td_canon.proofs.SpellingLemmas.{cancel_front}
 use Rattle.tg_reader.specs.Writable.{IsTreeText}
 use Rattle.tg_text.specs.GrammarText.{ClassText, class_text, closing_word, ended, grammar_text, tree_line, tree_lines}
 use Rattle.tg_text.proofs.FrontLemmas.{line_behind, lines_apart, tree_parts, word_line}
@@ -27,18 +27,18 @@ trees_apart n (t ∷ ts) (u ∷ us) cut cut' k l r s h g e =
     let left = tree_lines (suc n) ts ++ (ended (closing_word cut ++ k) ++ r) in
     let right = tree_lines (suc n) us ++ (ended (closing_word cut' ++ l) ++ s) in
     let whole : tree_line n t ++ left ≡ tree_line n u ++ right = sym (append_assoc (tree_line n t) (tree_lines (suc n) ts) (ended (closing_word cut ++ k) ++ r)) ∙ e ∙ append_assoc (tree_line n u) (tree_lines (suc n) us) (ended (closing_word cut' ++ l) ++ s) in
-    let parts = cancel_front (codes " ") _ _ (cancel_front (decimal n) _ _ (cancel_front (codes "tree ") _ _ (sym (tree_parts n t left) ∙ whole ∙ tree_parts n u right))) in
+    let parts = append_cancel_left (codes " ") _ _ (append_cancel_left (decimal n) _ _ (append_cancel_left (codes "tree ") _ _ (sym (tree_parts n t left) ∙ whole ∙ tree_parts n u right))) in
     let one = lines_apart t u left right (tree_text_line t h.0) (tree_text_line u g.0) parts in
     let rest = trees_apart (suc n) ts us cut cut' k l r s h.1 g.1 one.1 in
     (λ i. one.0 i ∷ rest.0 i, rest.1)
 
 closing_apart : (cut cut' : Bool) (m n : ℕ) (r s : List ℕ) → ended (closing_word cut ++ decimal m) ++ r ≡ ended (closing_word cut' ++ decimal n) ++ s → (cut ≡ cut') × (r ≡ s)
 closing_apart true true m n r s e =
-    (refl, (lines_apart (decimal m) (decimal n) r s (fine_lacks (decimal m) (fine_decimal m)) (fine_lacks (decimal n) (fine_decimal n)) (cancel_front (codes "cut ") _ _ (sym (line_behind (codes "cut ") (decimal m) r) ∙ e ∙ line_behind (codes "cut ") (decimal n) s))).1)
+    (refl, (lines_apart (decimal m) (decimal n) r s (fine_lacks (decimal m) (fine_decimal m)) (fine_lacks (decimal n) (fine_decimal n)) (append_cancel_left (codes "cut ") _ _ (sym (line_behind (codes "cut ") (decimal m) r) ∙ e ∙ line_behind (codes "cut ") (decimal n) s))).1)
 closing_apart true false m n r s e = absurd (let f : 99 ≡ 116 = same_head 99 116 _ _ e in omega (arith, f))
 closing_apart false true m n r s e = absurd (let f : 116 ≡ 99 = same_head 116 99 _ _ e in omega (arith, f))
 closing_apart false false m n r s e =
-    (refl, (lines_apart (decimal m) (decimal n) r s (fine_lacks (decimal m) (fine_decimal m)) (fine_lacks (decimal n) (fine_decimal n)) (cancel_front (codes "trees ") _ _ (sym (line_behind (codes "trees ") (decimal m) r) ∙ e ∙ line_behind (codes "trees ") (decimal n) s))).1)
+    (refl, (lines_apart (decimal m) (decimal n) r s (fine_lacks (decimal m) (fine_decimal m)) (fine_lacks (decimal n) (fine_decimal n)) (append_cancel_left (codes "trees ") _ _ (sym (line_behind (codes "trees ") (decimal m) r) ∙ e ∙ line_behind (codes "trees ") (decimal n) s))).1)
 
 class_split : (c : ClassText) (r : List ℕ) → class_text c ++ r ≡ codes "class " ++ (ended c.name ++ (tree_lines 1 c.trees ++ (closing_line c.cut c.trees ++ r)))
 class_split c r =
@@ -49,7 +49,7 @@ class_split c r =
 
 class_apart : (c d : ClassText) (r s : List ℕ) → IsClassText c → IsClassText d → class_text c ++ r ≡ class_text d ++ s → (c ≡ d) × (r ≡ s)
 class_apart c d r s h g e =
-    let names = lines_apart c.name d.name _ _ (word_line c.name h.word) (word_line d.name g.word) (cancel_front (codes "class ") _ _ (sym (class_split c r) ∙ e ∙ class_split d s)) in
+    let names = lines_apart c.name d.name _ _ (word_line c.name h.word) (word_line d.name g.word) (append_cancel_left (codes "class ") _ _ (sym (class_split c r) ∙ e ∙ class_split d s)) in
     let trees = trees_apart 1 c.trees d.trees c.cut d.cut (decimal (length c.trees)) (decimal (length d.trees)) r s h.texts g.texts names.1 in
     let last = closing_apart c.cut d.cut (length c.trees) (length d.trees) r s trees.1 in
     (λ i. record { name = names.0 i; trees = trees.0 i; cut = last.0 i }, last.1)
@@ -73,7 +73,7 @@ classes_apart (c ∷ cs) (d ∷ ds) h g e =
 pub texts_apart : (cs ds : List ClassText) → Each IsClassText cs → Each IsClassText ds → grammar_text cs ≡ grammar_text ds → cs ≡ ds
 texts_apart cs ds h g e =
     let version = ended (codes "grammar 1") in
-    classes_apart cs ds h g (cancel_front version _ _ (sym (append_assoc version (gathered class_text cs) (ended (codes "end"))) ∙ e ∙ append_assoc version (gathered class_text ds) (ended (codes "end"))))
+    classes_apart cs ds h g (append_cancel_left version _ _ (sym (append_assoc version (gathered class_text cs) (ended (codes "end"))) ∙ e ∙ append_assoc version (gathered class_text ds) (ended (codes "end"))))
 
 -- ---- the text is UTF-8
 

@@ -1,4 +1,5 @@
 -- Where no line that may stand there comes next.
+use Rattle.std.proofs.lemmas.List.{append_cancel_left}
 use Rattle.std.specs.Prelude.{◌≡◌, ◌≢◌, ℕ, suc, Bool, true, false, List, [], ◌++◌, length, codes, refl}
 use Rattle.std.specs.Fmt.{decimal}
 use Rattle.std.proofs.Common.{ap, sym, ◌∙◌, subst, arith, append_assoc}
@@ -6,7 +7,6 @@ use Rattle.gr_base.specs.Lists.{Each, IsAmong, IsBefore, joined}
 use Rattle.gr_base.proofs.ListLemmas.{same_head}
 use Rattle.td_canon.specs.Spelling.{Lacks}
 use Rattle.td_canon.specs.TreeSets.{Entry, texts_of}
-use Rattle.td_canon.proofs.SpellingLemmas.{cancel_front}
 use Rattle.tg_reader.specs.Writable.{IsTable, IsTreeText, IsWord}
 use Rattle.tg_text.specs.Answers.{BreaksOff}
 use Rattle.tg_text.specs.GrammarText.{closing_word, ended, tree_line, tree_lines}
@@ -22,7 +22,7 @@ use Rattle.tg_text.proofs.TreeBytes.{tree_text_line}
 pub no_closing : (n : ℕ) (t more : List ℕ) (cut : Bool) (number more' : List ℕ) → tree_line n t ++ more ≡ ended (closing_word cut ++ number) ++ more' → ⊥
 no_closing n t more true number more' e = let f : 116 ≡ 99 = same_head 116 99 _ _ e in omega (arith, f)
 no_closing n t more false number more' e =
-    let g = cancel_front (codes "tree") _ _ e in
+    let g = append_cancel_left (codes "tree") _ _ e in
     let f : 32 ≡ 115 = same_head 32 115 _ _ g in omega (arith, f)
 
 -- a line of a tree that may not stand here
@@ -34,7 +34,7 @@ tree_breaks names trees n t more rest len lacks e wrong line others after f foll
 
     by : (line others : List ℕ) (after : Standing) → rest ≡ line ++ others → Follows (inside names trees) line after → ⊥
     by _ others _ f (a_tree _ _ u is above) =
-        let parts = cancel_front (codes " ") _ _ (cancel_front (decimal (suc (length trees))) _ _ (cancel_front (codes "tree ") _ _ (sym (tree_parts (suc (length trees)) t more) ∙ sym there ∙ f ∙ tree_parts (suc (length trees)) u others))) in
+        let parts = append_cancel_left (codes " ") _ _ (append_cancel_left (decimal (suc (length trees))) _ _ (append_cancel_left (codes "tree ") _ _ (sym (tree_parts (suc (length trees)) t more) ∙ sym there ∙ f ∙ tree_parts (suc (length trees)) u others))) in
         let same : t ≡ u = (lines_apart t u more others lacks (tree_text_line u is) parts).0 in
         wrong (subst (λ z. IsTreeText z) (sym same) is) (subst (λ z. Each (λ v. IsBefore v z) trees) (sym same) above)
     by _ others _ f (a_count _ _ cut) = no_closing (suc (length trees)) t more cut (decimal (length trees)) others (sym there ∙ f)
@@ -54,7 +54,7 @@ no_end name more more' e = let f : 99 ≡ 101 = same_head 99 101 _ _ e in omega 
 
 pub class_name_apart : (a b r s : List ℕ) → IsWord a → IsWord b → ended (codes "class " ++ a) ++ r ≡ ended (codes "class " ++ b) ++ s → a ≡ b
 class_name_apart a b r s h k e =
-    (lines_apart a b r s (word_line a h) (word_line b k) (cancel_front (codes "class ") _ _ (sym (line_behind (codes "class ") a r) ∙ e ∙ line_behind (codes "class ") b s))).0
+    (lines_apart a b r s (word_line a h) (word_line b k) (append_cancel_left (codes "class ") _ _ (sym (line_behind (codes "class ") a r) ∙ e ∙ line_behind (codes "class ") b s))).0
 
 -- a class that came before
 pub class_breaks : (names : List (List ℕ)) (name more rest : List ℕ) → IsWord name → rest ≡ ended (codes "class " ++ name) ++ more → IsAmong names name → BreaksOff (between names) rest

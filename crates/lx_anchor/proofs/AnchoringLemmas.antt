@@ -28,9 +28,10 @@ use Rattle.td_canon.specs.declared.tree_set.ClassTrees.{ClassTrees}
 use Rattle.tg_grammar.specs.Marks.{is_marked, marked, node_lists}
 use Rattle.tg_grammar.specs.Shapes.{IsWellFormedTree}
 use Rattle.lx_lexicon.specs.declared.entry.Entry.{Entry}
+use Rattle.tg_grammar.specs.NamedMarks.{HasNamedMarks}
 use Rattle.tg_model.specs.LexicalTrees.{IsLexical}
 use Rattle.tg_model.specs.declared.lexical.LexicalTree.{LexicalTree}
-use Rattle.lx_anchor.specs.Anchoring.{AreLemmas, HasLiteral, HasNamedMarks, IsAnchorRefusal, IsGiven, IsLexicalTree, Makes, co_leaves}
+use Rattle.lx_anchor.specs.Anchoring.{AreLemmas, HasLiteral, IsAnchorRefusal, IsGiven, IsLexicalTree, Makes, co_leaves}
 use Rattle.lx_anchor.specs.Counts.{IsEntryBelow, IsLiteralBelow}
 use Rattle.lx_anchor.specs.Networks.{anchored_network, anchored_tree, entry_term, tree_term}
 use Rattle.lx_anchor.specs.TreesOver.{IsTreeOver}
@@ -153,6 +154,7 @@ module _ (class : ClassTrees) (at n : ℕ) (t : Tree) (e : Entry) (there : slice
           λ none. some (ap length (sym (ap (λ (u : Tree). u.sem) tree) ∙ none)),
           λ named. record {
             well_formed = subst IsWellFormedTree (sym tree) (anchored.well_formed named);
+            named = subst HasNamedMarks (sym tree) (anchored.named named);
             literal = λ none. some (ap length (sym (ap (λ (u : Tree). u.sem) tree) ∙ none));
             coanchors = ap (map (λ (c : ℕ × Sym). c.0)) coanchors ∙ zip-numbers t e (co_leaves t) lemmas are.given ∙ sym (anchored.leaves named) ∙ ap (λ (u : Tree). marked COANCHOR (node_lists u.nodes)) (sym tree);
           },

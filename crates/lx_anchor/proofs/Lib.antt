@@ -10,7 +10,6 @@ pub mod Written
 pub mod WritingLemmas
 pub mod SharingLemmas
 pub mod CoanchorLemmas
-pub mod MarkedLemmas
 pub mod RowLemmas
 pub mod AnchoringLemmas
 pub mod CarryingLemmas

@@ -17,7 +17,7 @@ use Rattle.td_tree.specs.Trees.{BagPairs}
 use Rattle.td_tree.specs.TreeViews.{lists_of}
 use Rattle.tg_grammar.specs.Marks.{is_number, mark_name, name_of, numbers_from, value_of}
 use Rattle.tg_grammar.proofs.MarkLemmas.{value_of-among, value_of-lacks}
-use Rattle.lx_anchor.specs.Anchoring.{IsNamedMark}
+use Rattle.tg_grammar.specs.NamedMarks.{IsNamedMark}
 use Rattle.lx_anchor.specs.Writings.{IsJoint}
 use Rattle.lx_anchor.proofs.ShapeKeeping.{Keeps}
 
@@ -78,6 +78,17 @@ module _ (N : List (net.Assertion ℕ ℕ)) (agrees : Agrees N) (bag joint : Bag
   mark-kept None e named = ap name_of (none-kept MARK e ∙ sym e)
   mark-kept (Some (name m)) e named = ap name_of (name-kept MARK m e ∙ sym e)
   mark-kept (Some (variable v)) e named = absurd (named v e)
+
+  named-kept : (o : Option (net.Term ℕ)) → value_of (pairs_of bag) MARK ≡ o → ((v : ℕ) → value_of (pairs_of bag) MARK ≡ Some (variable v) → ⊥) → (v : ℕ) → value_of (pairs_of joint) MARK ≡ Some (variable v) → ⊥
+  named-kept None e named v is = none-some (variable v) (sym (none-kept MARK e) ∙ is)
+  named-kept (Some (name m)) e named v is = let clash : name m ≡ variable v = same_Some (name m) (variable v) (sym (name-kept MARK m e) ∙ is) in cc
+  named-kept (Some (variable w)) e named v is = named w e
+
+  -- a mark that is a name, or none, stays so
+  pub node-named : (old new : Node BagPairs) → bag ≡ old.own → joint ≡ new.own → IsNamedMark (lists_of old) → IsNamedMark (lists_of new)
+  node-named old new is also named =
+      subst (λ b. (v : ℕ) → value_of (pairs_of b) MARK ≡ Some (variable v) → ⊥) also
+      (named-kept (value_of (pairs_of bag) MARK) refl (subst (λ b. (v : ℕ) → value_of (pairs_of b) MARK ≡ Some (variable v) → ⊥) (sym is) named))
 
   category-kept : (o : Option (net.Term ℕ)) → value_of (pairs_of bag) CAT ≡ o → (a : ℕ) → name_of o ≡ Some a → name_of (value_of (pairs_of joint) CAT) ≡ Some a
   category-kept None e a is = absurd (none-some a is)

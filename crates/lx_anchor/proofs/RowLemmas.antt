@@ -14,9 +14,10 @@ use Rattle.td_canon.specs.declared.tree_set.ClassTrees.{ClassTrees}
 use Rattle.tg_grammar.specs.Grammars.{IsClassNamed, LacksClass}
 use Rattle.tg_grammar.proofs.GrammarLemmas.{Each-slice_get}
 use Rattle.lx_lexicon.specs.declared.entry.Entry.{Entry}
+use Rattle.tg_grammar.specs.NamedMarks.{HasNamedMarks, HaveNamedMarks}
 use Rattle.tg_model.specs.LexicalTrees.{IsLexical}
 use Rattle.tg_model.specs.declared.lexical.LexicalTree.{LexicalTree}
-use Rattle.lx_anchor.specs.Anchoring.{AreLexicalTrees, HasLiteral, HasNamedMarks, HaveNamedMarks, InOrder, IsAnchorRefusal, IsBare, IsLexicalTree, IsOfPair, IsPair, IsSooner, Makes, place_of}
+use Rattle.lx_anchor.specs.Anchoring.{AreLexicalTrees, HasLiteral, InOrder, IsAnchorRefusal, IsBare, IsLexicalTree, IsOfPair, IsPair, IsSooner, Makes, place_of}
 use Rattle.lx_anchor.specs.Networks.{entry_term, tree_term}
 use Rattle.lx_anchor.specs.Rows.{AreDone, IsRefused}
 use Rattle.lx_anchor.specs.declared.refusal.AnchorRefusal.{AnchorRefusal}

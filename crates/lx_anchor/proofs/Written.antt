@@ -37,7 +37,8 @@ use Rattle.tg_grammar.specs.Marks.{is_marked, lists_at, marked, node_lists}
 use Rattle.tg_grammar.specs.Shapes.{IsWellFormedTree}
 use Rattle.tg_grammar.proofs.SightLemmas.{labels-nodes}
 use Rattle.lx_lexicon.specs.declared.entry.Entry.{Entry}
-use Rattle.lx_anchor.specs.Anchoring.{HasNamedMarks, IsNamedMark, co_leaves}
+use Rattle.tg_grammar.specs.NamedMarks.{HasNamedMarks, IsNamedMark}
+use Rattle.lx_anchor.specs.Anchoring.{co_leaves}
 use Rattle.lx_anchor.specs.Counts.{IsLiteralBelow, IsTreeBelow}
 use Rattle.lx_anchor.specs.Networks.{Variable, Slot, in_tree, slots_in, tree_term, entry_term, anchored_network, anchored_tree}
 use Rattle.lx_anchor.specs.Rows.{IsAnchoredTree}
@@ -47,12 +48,16 @@ use Rattle.lx_anchor.specs.Writings.{IsJoint, IsJointNode, IsJointTree, added_at
 use Rattle.lx_anchor.proofs.AnchoredNetwork.{AddedAt, JointAt, base, joint-value, value-joint}
 use Rattle.lx_anchor.proofs.Building.{Matches, IsBuilt, bags_of, built}
 use Rattle.lx_anchor.proofs.Joining.{Fits, entry-fits, joint-fits, linked-written, network-agrees, tree-fits, written, written-home, written-linked, written-name}
-use Rattle.lx_anchor.proofs.Marking.{node-keeps, number-there}
+use Rattle.lx_anchor.proofs.Marking.{node-keeps, node-named, number-there}
 use Rattle.lx_anchor.proofs.Numbers.{in_store, in_store-entry, in_store-tree, owner}
 use Rattle.lx_anchor.proofs.PairLemmas.{IsBagAt, bag-pair, bag_of, counted-in, counted-out, one-bag, pair-bag, pair-in, pair-out}
 use Rattle.lx_anchor.proofs.ShapeKeeping.{Keeps, marked-kept, well_formed-kept}
 
 -- ---- lists
+
+each-mapped : {A B : Type 0} (P : B → Type 0) (f : A → B) (xs : List A) → ((n : ℕ) (x : A) → slice_get xs n ≡ Some x → P (f x)) → Each P (map f xs)
+each-mapped P f [] h = tt
+each-mapped P f (x ∷ xs) h = (h zero x refl, each-mapped P f xs (λ n y at. h (suc n) y at))
 
 at-length : {A B : Type 0} (xs : List A) (ys : List B) (n : ℕ) (x : A) → length ys ≡ length xs → slice_get xs n ≡ Some x → (y : B) × (slice_get ys n ≡ Some y)
 at-length [] ys n x e at = absurd (none-some x at)
@@ -328,6 +333,11 @@ module _ (t : Tree) (e : Entry) (first anchor : ℕ) (nodes : AreTreeNodes t.nod
       by (z ∷ zs) h (inl is) = subst (λ w. IsNamedMark (lists_at w)) (sym is) h.0
       by (z ∷ zs) h (inr i) = by zs h.1 i
 
+  pub marks-named : HasNamedMarks t → HasNamedMarks new
+  marks-named named = each-mapped IsNamedMark lists_at new.nodes (λ n y there.
+      let old = at-length new.nodes t.nodes n y (sym joint.nodes.as_many) there in
+      node-named NE agrees old.0.own y.own (joint.nodes.each n old.0 y old.1 there).own (bags_of old.0) (bags_of y) refl refl (named-node t.nodes named n old.0 old.1))
+
   matches : Matches Q K 0 t.nodes new.nodes
   matches =
       matches-from Q K 0 t.nodes new.nodes joint.nodes.as_many
@@ -393,5 +403,6 @@ anchored-tree t e first anchor well one below E equations agrees new joint = rec
         well_formed-kept (map_forest lists_of well.nodes.forest) (map_forest lists_of (tree-built t e first anchor well.nodes one below E equations agrees new joint).forest)
         (forests-alike t e first anchor well.nodes one below E equations agrees new joint named) well.well_formed;
   };
+  named = marks-named t e first anchor well.nodes one below E equations agrees new joint;
   leaves = leaves-kept t e first anchor well.nodes one below E equations agrees new joint;
 }

@@ -3,8 +3,8 @@ use Rattle.std.specs.Prelude.{◌≡◌, ◌≢◌, ℕ, suc, ◌<◌, List, [],
 use Rattle.std.specs.List.{AllZip}
 use Rattle.gr_base.specs.Lists.{IsAmong, Each}
 use Rattle.gr_terms.specs.Canonical.{Node}
-use Rattle.gr_terms.specs.Constants.{MARK, NAME, COANCHOR}
-use Rattle.gr_terms.specs.Networks.{Agrees, variable}
+use Rattle.gr_terms.specs.Constants.{NAME, COANCHOR}
+use Rattle.gr_terms.specs.Networks.{Agrees}
 use Rattle.gr_terms.specs.declared.Sym.{Sym}
 use Rattle.td_tree.specs.Trees.{AreTreeNodes}
 use Rattle.td_tree.specs.TreeViews.{Pairs}
@@ -123,13 +123,3 @@ pub record IsFirstBare (classes : List ClassTrees) (es : List Entry) (lemma clas
 abbrev pub IsAnchorRefusal : List ClassTrees → List Entry → AnchorRefusal → Type 0
 IsAnchorRefusal classes es (refusal.NoLiteral lemma class number) = IsFirstBare classes es lemma class number
 IsAnchorRefusal classes es refusal.Memory = ⊤
-
--- No node has a variable as its mark. Such a mark is none in the tree, but could become one by what an entry links with it
-abbrev pub IsNamedMark : Node Pairs → Type 0
-IsNamedMark n = (v : ℕ) → value_of n.own MARK ≡ Some (variable v) → ⊥
-
-abbrev pub HasNamedMarks : Tree → Type 0
-HasNamedMarks t = Each IsNamedMark (node_lists t.nodes)
-
-abbrev pub HaveNamedMarks : List ClassTrees → Type 0
-HaveNamedMarks classes = Each (λ c. Each HasNamedMarks (trees_of c.trees)) classes

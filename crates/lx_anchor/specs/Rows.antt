@@ -10,21 +10,23 @@ use Rattle.td_canon.specs.TreeSets.{trees_of}
 use Rattle.td_canon.specs.declared.tree_set.ClassTrees.{ClassTrees}
 use Rattle.tg_grammar.specs.Grammars.{IsClassNamed}
 use Rattle.tg_grammar.specs.Marks.{marked, node_lists}
+use Rattle.tg_grammar.specs.NamedMarks.{HasNamedMarks, HaveNamedMarks}
 use Rattle.tg_grammar.specs.Shapes.{IsWellFormedTree}
 use Rattle.lx_lexicon.specs.declared.entry.Entry.{Entry}
 use Rattle.tg_model.specs.LexicalTrees.{AreLexical, IsLexical}
 use Rattle.tg_model.specs.declared.lexical.LexicalTree.{LexicalTree}
-use Rattle.lx_anchor.specs.Anchoring.{HasLiteral, HasNamedMarks, HaveNamedMarks, InOrder, IsBare, IsLexicalTree, IsOfPair, IsPair, IsSooner, Makes, co_leaves, place_of}
+use Rattle.lx_anchor.specs.Anchoring.{HasLiteral, InOrder, IsBare, IsLexicalTree, IsOfPair, IsPair, IsSooner, Makes, co_leaves, place_of}
 use Rattle.lx_anchor.specs.Networks.{anchored_network, anchored_tree}
 use Rattle.lx_anchor.specs.TreesOver.{IsTreeOver}
 use Rattle.lx_anchor.specs.declared.refusal.AnchorRefusal.{AnchorRefusal}
 use Rattle.lx_anchor.specs.declared.refusal.AnchorRefusal.TheVariants as refusal
 
--- the network of the tree and the entry agrees, and this is the tree over it; where no mark is a variable it keeps the shape and the leaves of mark `coanchor`
+-- the network of the tree and the entry agrees, and this is the tree over it; where no mark is a variable it keeps the shape, the marks and the leaves of mark `coanchor`
 pub record IsAnchoredTree (t : Tree) (e : Entry) (new : Tree) : Type 0 where
   pub agrees : (nodes : AreTreeNodes t.nodes) → Agrees (anchored_network nodes.forest t e)
   pub over : (nodes : AreTreeNodes t.nodes) → IsTreeOver (anchored_network nodes.forest t e) (anchored_tree nodes.forest t e) new
   pub well_formed : HasNamedMarks t → IsWellFormedTree new
+  pub named : HasNamedMarks t → HasNamedMarks new
   pub leaves : HasNamedMarks t → marked COANCHOR (node_lists new.nodes) ≡ co_leaves t
 
 -- the tree over the network, or none where that doesn't agree

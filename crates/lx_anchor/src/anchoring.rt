@@ -5,8 +5,9 @@ ghost use Rattle.gr_store.specs.Contents.{Grows};
 ghost use Rattle.td_canon.specs.TreeSets.{trees_of};
 ghost use Rattle.tg_grammar.specs.Grammars.{IsWellFormedClass};
 ghost use Rattle.tg_grammar.specs.Shapes.{IsWellFormedTree};
+ghost use Rattle.tg_grammar.specs.NamedMarks.{HaveNamedMarks};
 ghost use Rattle.tg_model.specs.LexicalTrees.{AreLexical};
-ghost use Rattle.lx_anchor.specs.Anchoring.{AreLexicalTrees, HasLiteral, HaveNamedMarks, IsAnchorRefusal};
+ghost use Rattle.lx_anchor.specs.Anchoring.{AreLexicalTrees, HasLiteral, IsAnchorRefusal};
 ghost use Rattle.lx_anchor.specs.Counts.{AreClassesBelow, IsClassBelow};
 ghost use Rattle.lx_anchor.specs.Rows.{AreDone, IsAnchored, IsFamily, IsFound, IsRefused};
 ghost use Rattle.lx_anchor.specs.Sharing.{CanServe, HasRoom};
@@ -208,7 +209,7 @@ fn anchor_entry(
 
 /// All lexical trees, by entry and then by tree, or the first that has no literal. Where no node of the
 /// grammar's trees has a variable as its `mark`, as in all trees of metagrammars and of grammar text,
-/// each is well formed and has the lemmas of just its co-anchors.
+/// each is well formed, has names alone as marks too, and has the lemmas of just its co-anchors.
 /// Entries and variables whose numbers take more than 32 bits count as more than there is memory for.
 pub fn anchor_all(
     alloc: Global,

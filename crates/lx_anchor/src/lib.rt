@@ -23,7 +23,7 @@
 //!   it, or refuses exactly at the first that has no literal.
 //! - Classes are to have no variable as a node's `mark`: such a mark is none in the tree, but an entry
 //!   could make it one. A metagrammar and grammar text write marks as words alone, so their trees have
-//!   no such mark.
+//!   no such mark. [`has_named_marks`] decides it, and then no lexical tree has such a mark.
 //! - [`laws`]: further assertions agree with the network of a lexical tree's own lists exactly where
 //!   they agree with that of its tree and its entry. So the layers above need the lexical tree alone.
 //!
@@ -40,15 +40,14 @@ mod anchoring;
 mod coanchors;
 mod counts;
 pub mod laws;
-mod marks;
 mod refusal;
 mod sharing;
 mod writing;
 
 pub use anchoring::anchor_all;
 pub use gr_base::Memory;
-pub use marks::has_named_marks;
 pub use refusal::AnchorRefusal;
+pub use tg_grammar::has_named_marks;
 
 #[cfg(test)]
 mod tests;

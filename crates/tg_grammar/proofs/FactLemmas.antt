@@ -1,7 +1,6 @@
 -- The nodes of a mark, from the front, and those of a well-formed tree.
-use Rattle.std.specs.Prelude.{◌≡◌, ◌≢◌, ℕ, suc, ◌+◌, ◌<◌, ◌≤◌, List, [], ◌∷◌, length, drop, slice_get, Option, Some, None, Bool, true, false, if◌then◌else◌, MatchOption, refl}
+use Rattle.std.specs.Prelude.{◌≡◌, ℕ, suc, ◌+◌, ◌≤◌, List, [], ◌∷◌, length, drop, slice_get, Option, Some, None, true, false, if◌then◌else◌, MatchOption}
 use Rattle.std.proofs.Common.{ap, sym, ◌∙◌, subst, arith}
-use Rattle.std.proofs.lemmas.Option.{none-some}
 use Rattle.gr_base.specs.Forests.{labels, map_forest}
 use Rattle.gr_base.proofs.ListLemmas.{drop-slice_get}
 use Rattle.gr_terms.specs.Constants.{ANCHOR, FOOT}
@@ -11,7 +10,7 @@ use Rattle.td_tree.specs.declared.TreeNode.{TreeNode}
 use Rattle.tg_grammar.specs.declared.flaw.Flaw.TheVariants as flaw
 use Rattle.tg_grammar.specs.Marks.{first_name, is_marked, lists_at, marked, node_lists, numbers_from}
 use Rattle.tg_grammar.specs.Shapes.{IsWellFormedTree}
-use Rattle.tg_grammar.proofs.ShapeLemmas.{few_of, single_of, some_of}
+use Rattle.tg_grammar.proofs.ShapeLemmas.{few_of, single_of}
 use Rattle.tg_grammar.proofs.SightLemmas.{first_name-root, labels-nodes}
 
 -- the numbers from a place on: the node there has the mark, or not

@@ -1,22 +1,19 @@
 -- The lowest of what is wrong.
-use Rattle.std.specs.Prelude.{◌≡◌, ◌≢◌, ℕ, suc, ◌==◌, ◌<◌, ◌≤◌, List, [], ◌∷◌, ◌++◌, length, Option, Some, None, Bool, true, false, IsTrue, IsFalse, nat_lt, ◌||◌, if◌then◌else◌, ◌⊎◌, ◌↔◌, refl}
+use Rattle.std.specs.Prelude.{◌≡◌, ℕ, suc, ◌==◌, ◌<◌, ◌≤◌, Option, Some, None, Bool, true, false, IsTrue, IsFalse, ◌||◌, if◌then◌else◌, ◌⊎◌, ◌↔◌, refl}
 use Rattle.std.proofs.Common.{inl, inr, ap, sym, ◌∙◌, subst, arith, eq-eqb}
 use Rattle.std.proofs.lemmas.Bool.{eqb-true}
 use Rattle.std.proofs.lemmas.Option.{same_Some}
 use Rattle.gr_terms.specs.declared.Sym.{Sym}
 use Rattle.std.proofs.lemmas.Bool.Decides.{leb_tells}
-use Rattle.gr_base.specs.Lists.{IsAmong}
-use Rattle.gr_base.proofs.ListLemmas.{IsAmong-append_left, IsAmong-one_more, IsAmong-new_one}
-use Rattle.gr_terms.specs.Constants.{ANCHOR, COANCHOR, SUBST, FOOT, LEX, NADJ, EMPTY}
+use Rattle.gr_terms.specs.Constants.{ANCHOR, COANCHOR, SUBST, FOOT, LEX}
 use Rattle.gr_terms.specs.Canonical.{Node}
 use Rattle.td_tree.specs.TreeViews.{Pairs}
 use Rattle.tg_grammar.specs.declared.flaw.Flaw.{Flaw}
 use Rattle.tg_grammar.specs.declared.flaw.Flaw.TheVariants as flaw
-use Rattle.tg_grammar.specs.declared.marks.Mark.{Mark}
 use Rattle.tg_grammar.specs.declared.marks.Mark.TheVariants as mark
-use Rattle.tg_grammar.specs.Marks.{category_name, is_number, is_marked, has_leaf_mark, mark_name, mark_number, HasNoMark}
+use Rattle.tg_grammar.specs.Marks.{is_marked, has_leaf_mark, HasNoMark}
 use Rattle.tg_grammar.specs.Shapes.{AreOneName, IsLowest, LacksWord, code_of}
-use Rattle.tg_grammar.specs.Surveys.{HasLowest, HasNodeFlaw, Sight, lower, number_of}
+use Rattle.tg_grammar.specs.Surveys.{HasLowest, HasNodeFlaw, lower, number_of}
 
 -- the same is wrong
 pub HasLowest-same : (P Q : Flaw → Type 0) → ((w : Flaw) → P w → Q w) → ((w : Flaw) → Q w → P w) → (o : Option Flaw) → HasLowest P o → HasLowest Q o

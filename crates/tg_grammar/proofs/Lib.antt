@@ -1,4 +1,6 @@
 pub mod MarkLemmas
+pub mod NamedLemmas
+pub mod SpotLemmas
 pub mod SightLemmas
 pub mod FlawLemmas
 pub mod SurveyLemmas

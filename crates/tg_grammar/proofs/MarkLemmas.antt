@@ -1,20 +1,16 @@
 -- Values of attributes, and marks of nodes.
-use Rattle.std.specs.Prelude.{◌≡◌, ◌≢◌, ℕ, suc, ◌+◌, ◌≤◌, List, [], ◌∷◌, ◌++◌, length, Option, Some, None, Bool, true, false, IsTrue, IsFalse, nat_eq, ◌==◌, ◌||◌, if◌then◌else◌, ◌⊎◌, option_map, MatchOption, refl}
-use Rattle.std.proofs.Common.{inl, inr, ap, sym, ◌∙◌, subst, arith, eq-eqb}
+use Rattle.std.specs.Prelude.{◌≡◌, ◌≢◌, ℕ, suc, ◌+◌, ◌≤◌, List, [], ◌∷◌, ◌++◌, length, Option, Some, None, Bool, true, false, if◌then◌else◌, option_map, MatchOption, refl}
+use Rattle.std.proofs.Common.{inl, inr, ap, sym, ◌∙◌, arith, eq-eqb}
 use Rattle.std.proofs.lemmas.Bool.Decides.{eqb_tells}
-use Rattle.gr_base.specs.Lists.{IsAmong, Each}
-use Rattle.gr_base.proofs.ListLemmas.{Each-at}
+use Rattle.gr_base.specs.Lists.{IsAmong}
 use Rattle.gr_terms.specs.Bags.{IsListed, LacksAttribute}
 use Rattle.gr_terms.proofs.BagLemmas.{IsListed-value}
 use Rattle.gr_terms.specs.BagViews.{pairs_of}
-use Rattle.gr_terms.specs.Canonical.{Node}
 use Rattle.gr_terms.specs.Networks as net
 use Rattle.gr_terms.specs.Views.{term_of}
 use Rattle.gr_terms.specs.declared.Sym.{Sym}
 use Rattle.gr_terms.specs.declared.Term.{Term}
-use Rattle.gr_terms.specs.declared.Term.TheVariants.{Const, Var}
-use Rattle.td_tree.specs.TreeViews.{Pairs}
-use Rattle.tg_grammar.specs.Marks.{value_of, name_of, numbers_from, marked, is_marked}
+use Rattle.tg_grammar.specs.Marks.{value_of, numbers_from}
 
 -- the first pair has the attribute, or another
 value_here : {V : Type 0} (p : ℕ × net.Term V) (ps : List (ℕ × net.Term V)) (a : ℕ) → p.0 ≡ a → value_of (p ∷ ps) a ≡ Some p.1

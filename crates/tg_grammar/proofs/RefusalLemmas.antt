@@ -1,21 +1,20 @@
 -- A list of classes has at most one first refusal.
-use Rattle.std.specs.Prelude.{◌≡◌, ℕ, zero, suc, ◌+◌, ◌<◌, ◌≤◌, List, [], ◌∷◌, take, slice_get, Option, Some, None, ◌⊎◌, refl}
-use Rattle.std.proofs.Common.{inl, inr, ap, sym, ◌∙◌, subst, arith}
+use Rattle.std.specs.Prelude.{◌≡◌, ℕ, zero, suc, ◌<◌, ◌≤◌, List, [], ◌∷◌, take, slice_get, Some, refl}
+use Rattle.std.proofs.Common.{ap, sym, ◌∙◌, subst, arith}
 use Rattle.std.proofs.lemmas.Option.{none-some, same_Some}
 use Rattle.gr_base.specs.Lists.{Each}
-use Rattle.gr_base.specs.Forests.{Forest, map_forest}
-use Rattle.gr_terms.specs.Canonical.{Node}
+use Rattle.gr_base.specs.Forests.{map_forest}
 use Rattle.gr_terms.specs.declared.Sym.{Sym}
 use Rattle.td_canon.specs.TreeSets.{trees_of}
 use Rattle.td_canon.specs.declared.tree_set.ClassTrees.{ClassTrees}
-use Rattle.td_tree.specs.Trees.{AreTreeNodes, BagPairs}
+use Rattle.td_tree.specs.Trees.{AreTreeNodes}
 use Rattle.td_tree.specs.TreeViews.{lists_of}
 use Rattle.td_tree.specs.declared.Tree.{Tree}
 use Rattle.td_tree.specs.declared.TreeNode.{TreeNode}
 use Rattle.td_tree.proofs.PreorderLemmas.{preorder-unique}
 use Rattle.tg_grammar.specs.declared.flaw.Flaw.{Flaw}
 use Rattle.tg_grammar.specs.Grammars.{IsFirstOfClass, IsFirstRefusal, IsGrammar, IsWellFormedClass}
-use Rattle.tg_grammar.specs.Shapes.{HasFlaw, IsFirstFlaw, IsLowest, IsWellFormedTree, code_of}
+use Rattle.tg_grammar.specs.Shapes.{HasFlaw, IsFirstFlaw, IsWellFormedTree, code_of}
 use Rattle.tg_grammar.proofs.GrammarLemmas.{Each-slice_get}
 
 -- the nodes have one forest

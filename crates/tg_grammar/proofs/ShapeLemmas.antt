@@ -1,6 +1,6 @@
 -- What follows where nothing is wrong with a tree.
-use Rattle.std.specs.Prelude.{◌≡◌, ◌≢◌, ℕ, suc, ◌<◌, ◌≤◌, List, [], ◌∷◌, ◌++◌, length, Option, Some, None, Bool, true, false, IsTrue, IsFalse, ◌||◌, ◌⊎◌, refl}
-use Rattle.std.proofs.Common.{inl, inr, ap, sym, ◌∙◌, subst, arith}
+use Rattle.std.specs.Prelude.{◌≡◌, ◌≢◌, ℕ, ◌<◌, ◌≤◌, List, [], ◌∷◌, length, Option, Some, None, Bool, true, false, IsTrue, ◌||◌, ◌⊎◌, refl}
+use Rattle.std.proofs.Common.{inl, inr, ap, sym, ◌∙◌, arith}
 use Rattle.std.proofs.lemmas.Bool.Decides.{eqb_tells, leb_tells}
 use Rattle.std.proofs.lemmas.Option.{none-some, same_Some}
 use Rattle.gr_base.specs.Lists.{IsAmong}
@@ -9,11 +9,10 @@ use Rattle.gr_base.proofs.ListLemmas.{IsAmong-append, IsAmong-append_left, IsAmo
 use Rattle.gr_terms.specs.Constants.{ANCHOR, COANCHOR, SUBST, FOOT, LEX, EMPTY}
 use Rattle.gr_terms.specs.Canonical.{Node}
 use Rattle.td_tree.specs.TreeViews.{Pairs}
-use Rattle.tg_grammar.specs.declared.flaw.Flaw.{Flaw}
 use Rattle.tg_grammar.specs.declared.flaw.Flaw.TheVariants as flaw
-use Rattle.tg_grammar.specs.Facts.{HasGoodShape, HasCategoryName, HasWord}
+use Rattle.tg_grammar.specs.Facts.{HasGoodShape, HasWord}
 use Rattle.tg_grammar.specs.Marks.{category_name, has_leaf_mark, is_marked, marked}
-use Rattle.tg_grammar.specs.Shapes.{AreOneName, HasFlaw, IsWellFormed, LacksWord, root_name}
+use Rattle.tg_grammar.specs.Shapes.{AreOneName, IsWellFormed, root_name}
 
 pub some_of : (o : Option ℕ) → (o ≡ None → ⊥) → (a : ℕ) × (o ≡ Some a)
 some_of None h = absurd (h refl)

@@ -1,17 +1,18 @@
 -- One pass over nodes in preorder tells the forest: its nodes, its leaves and its inner nodes.
-use Rattle.std.specs.Prelude.{◌≡◌, ℕ, zero, suc, ◌+◌, ◌<◌, ◌≤◌, List, [], ◌∷◌, ◌++◌, length, map, take, drop, slice_get, Option, Some, None, Bool, true, false, IsTrue, IsFalse, nat_eq, ◌==◌, ◌⊎◌, ◌↔◌, refl, ⊤}
-use Rattle.std.proofs.Common.{inl, inr, ap, ap₂, sym, ◌∙◌, subst, arith, append_assoc, eq-eqb}
+use Rattle.std.specs.Prelude.{◌≡◌, ℕ, zero, suc, ◌+◌, ◌<◌, ◌≤◌, List, [], ◌∷◌, ◌++◌, length, take, drop, slice_get, Option, Some, None, Bool, true, false, refl}
+use Rattle.std.proofs.Common.{inl, inr, ap, ap₂, sym, ◌∙◌, arith, append_assoc, eq-eqb}
 use Rattle.std.proofs.lemmas.List.{append-nil, map-append}
 use Rattle.std.proofs.lemmas.Option.{none-some, same_Some}
 use Rattle.std.proofs.lemmas.Bool.Decides.{eqb_tells}
 use Rattle.gr_base.specs.Lists.{IsAmong}
-use Rattle.gr_base.specs.Forests.{Forest, empty, tree, IsOneTree, labels, leaf_labels, inner_labels, map_forest, size}
+use Rattle.gr_base.specs.Forests.{Forest, empty, tree, labels, leaf_labels, inner_labels, map_forest, size}
 use Rattle.gr_base.proofs.ListLemmas.{IsAmong-append, IsAmong-append_left, IsAmong-append_right}
 use Rattle.gr_terms.specs.Canonical.{Node}
 use Rattle.td_tree.specs.Trees.{BagPairs, AreTreeNodes, BeginsAbove, is_parent, node_of, preorder}
 use Rattle.td_tree.specs.TreeViews.{Pairs, lists_of}
 use Rattle.td_tree.specs.declared.TreeNode.{TreeNode}
-use Rattle.tg_grammar.specs.Marks.{first_name, lists_at, node_lists}
+pub use Rattle.td_tree.proofs.FlatTreeLemmas.{labels-nodes}
+use Rattle.tg_grammar.specs.Marks.{first_name, lists_at}
 use Rattle.tg_grammar.specs.Shapes.{root_name}
 use Rattle.tg_grammar.specs.Surveys.{Sight, begins_under, lists_seen, sights}
 
@@ -151,14 +152,6 @@ first_name-root nodes t = ap first_name t.laid ∙ by t.forest
     by : (f : Forest (Node BagPairs)) → first_name (preorder 0 None f) ≡ root_name (map_forest lists_of f)
     by empty = refl
     by (tree b kids more) = refl
-
--- the lists of the nodes are the labels
-pub labels-nodes : (nodes : List TreeNode) (t : AreTreeNodes nodes) → labels (map_forest lists_of t.forest) ≡ node_lists nodes
-labels-nodes nodes t = sym (lists_seen-forest t.forest) ∙ ap lists_seen (sym (sights-forest nodes t)) ∙ lists_seen-sights 0 nodes
-  where
-    lists_seen-sights : (n : ℕ) (xs : List TreeNode) → lists_seen (sights n xs) ≡ node_lists xs
-    lists_seen-sights n [] = refl
-    lists_seen-sights n (x ∷ xs) = ap (λ ys. lists_at x ∷ ys) (lists_seen-sights (suc n) xs)
 
 -- ---- the sights of the first nodes
 

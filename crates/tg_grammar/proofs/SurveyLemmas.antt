@@ -1,21 +1,20 @@
 -- Surveys: one more node, the flaw of the lowest code, and that it is the tree's.
-use Rattle.std.specs.Prelude.{◌≡◌, ◌≢◌, ℕ, suc, ◌+◌, ◌<◌, ◌≤◌, List, [], ◌∷◌, ◌++◌, length, map, take, Option, Some, None, Bool, true, false, IsTrue, IsFalse, MatchOption, if◌then◌else◌, ◌⊎◌, refl}
-use Rattle.std.proofs.Common.{inl, inr, ap, ap₂, sym, ◌∙◌, subst, arith}
+use Rattle.std.specs.Prelude.{◌≡◌, ◌≢◌, ℕ, ◌+◌, ◌<◌, ◌≤◌, List, [], ◌∷◌, ◌++◌, length, take, Option, Some, None, true, false, MatchOption, if◌then◌else◌, ◌⊎◌, refl}
+use Rattle.std.proofs.Common.{inl, inr, ap, sym, ◌∙◌, subst, arith}
 use Rattle.std.proofs.lemmas.List.{map-append, length-take, length-map}
 use Rattle.gr_base.specs.Lists.{IsAmong}
-use Rattle.gr_base.specs.Forests.{Forest, labels, map_forest}
+use Rattle.gr_base.specs.Forests.{Forest, map_forest}
 use Rattle.gr_base.proofs.ListLemmas.{IsAmong-append_left, IsAmong-one_more, IsAmong-new_one}
 use Rattle.gr_terms.specs.Constants.{ANCHOR, FOOT}
 use Rattle.gr_terms.specs.Canonical.{Node}
 use Rattle.td_tree.specs.Trees.{BagPairs, AreTreeNodes}
 use Rattle.td_tree.specs.TreeViews.{Pairs, lists_of}
 use Rattle.td_tree.specs.declared.Tree.{Tree}
-use Rattle.td_tree.specs.declared.TreeNode.{TreeNode}
 use Rattle.tg_grammar.specs.declared.flaw.Flaw.{Flaw}
 use Rattle.tg_grammar.specs.declared.flaw.Flaw.TheVariants as flaw
 use Rattle.tg_grammar.specs.declared.survey.Survey.{Survey}
 use Rattle.tg_grammar.specs.Marks.{first_name, is_marked, marked}
-use Rattle.tg_grammar.specs.Shapes.{HasFlaw, IsFirstFlaw, IsLowest, IsWellFormedTree, root_name}
+use Rattle.tg_grammar.specs.Shapes.{HasFlaw, IsFirstFlaw, IsWellFormedTree, root_name}
 use Rattle.tg_grammar.specs.Surveys.{HasCountFlaw, HasLowest, HasNodeFlaw, HasRootFlaw, HasSeenFlaw, HasSomeNodeFlaw, IsSurvey, Sight, lists_seen, lower, number_of, sights}
 use Rattle.tg_grammar.proofs.MarkLemmas.{length-numbers_push, length-numbers_≤}
 use Rattle.tg_grammar.proofs.FlawLemmas.{HasLowest-lower, HasLowest-same}

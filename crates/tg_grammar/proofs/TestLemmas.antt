@@ -1,7 +1,7 @@
 -- What the trees of the tests are.
-use Rattle.std.specs.Prelude.{◌≡◌, ℕ, ◌≤◌, List, [], ◌∷◌, length, Some, None}
-use Rattle.std.proofs.Common.{ap, sym, ◌∙◌, arith}
-use Rattle.gr_base.specs.Forests.{Forest, empty, tree}
+use Rattle.std.specs.Prelude.{◌≡◌, List, [], ◌∷◌, length, Some, None}
+use Rattle.std.proofs.Common.{ap, ◌∙◌, arith}
+use Rattle.gr_base.specs.Forests.{empty, tree}
 use Rattle.gr_terms.specs.Canonical.{Node}
 use Rattle.td_tree.specs.Trees.{AreTreeNodes, BagPairs}
 use Rattle.td_tree.specs.declared.TreeNode.{TreeNode}

@@ -1,5 +1,5 @@
 -- What the layers above use of a well-formed tree.
-use Rattle.std.specs.Prelude.{◌≡◌, ℕ, ◌≤◌, List, [], ◌∷◌, Some, IsTrue, IsFalse, length}
+use Rattle.std.specs.Prelude.{◌≡◌, ℕ, ◌≤◌, [], ◌∷◌, Some, IsTrue, IsFalse, length}
 use Rattle.gr_base.specs.Lists.{IsAmong}
 use Rattle.gr_base.specs.Forests.{Forest, labels, leaf_labels, inner_labels}
 use Rattle.gr_terms.specs.Constants.{ANCHOR, SUBST, FOOT, LEX, EMPTY}

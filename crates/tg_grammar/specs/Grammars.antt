@@ -1,5 +1,5 @@
 -- Grammars: classes whose trees are all well formed; and the first refusal of other classes.
-use Rattle.std.specs.Prelude.{◌≡◌, ℕ, suc, List, take, slice_get, Option, Some, None, ⊤}
+use Rattle.std.specs.Prelude.{◌≡◌, ℕ, suc, List, take, slice_get, Some, ⊤}
 use Rattle.gr_base.specs.Lists.{Each}
 use Rattle.gr_terms.specs.declared.Sym.{Sym}
 use Rattle.td_tree.specs.declared.Tree.{Tree}

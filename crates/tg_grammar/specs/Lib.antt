@@ -1,4 +1,6 @@
 pub mod Marks
+pub mod NamedMarks
+pub mod Spots
 pub mod Shapes
 pub mod Facts
 pub mod Grammars

@@ -1,9 +1,9 @@
 -- What the lists of a node say: its category and its mark; and the numbers of the nodes that have a mark.
-use Rattle.std.specs.Prelude.{◌≡◌, ℕ, suc, List, [], ◌∷◌, map, Option, Some, None, Bool, false, IsFalse, ◌==◌, ◌||◌, if◌then◌else◌}
+use Rattle.std.specs.Prelude.{◌≡◌, ℕ, suc, List, [], ◌∷◌, Option, Some, None, Bool, false, IsFalse, ◌==◌, ◌||◌, if◌then◌else◌}
 use Rattle.gr_terms.specs.Constants.{CAT, MARK, ANCHOR, COANCHOR, SUBST, FOOT, LEX, NADJ}
 use Rattle.gr_terms.specs.Networks.{Term, name, variable}
 use Rattle.gr_terms.specs.Canonical.{Node}
-use Rattle.gr_terms.specs.BagViews.{pairs_of}
+pub use Rattle.td_tree.specs.FlatTrees.{lists_at, node_lists}
 use Rattle.td_tree.specs.TreeViews.{Pairs}
 use Rattle.td_tree.specs.declared.TreeNode.{TreeNode}
 use Rattle.tg_grammar.specs.declared.marks.Mark.{Mark}
@@ -66,15 +66,7 @@ numbers_from n test (x ∷ xs) = if test x then (n ∷ numbers_from (suc n) test
 abbrev pub marked : ℕ → List (Node Pairs) → List ℕ
 marked m nodes = numbers_from 0 (is_marked m) nodes
 
--- the lists of a node of the code
-abbrev pub lists_at : TreeNode → Node Pairs
-lists_at x = record { own = pairs_of x.own; top = pairs_of x.top; bottom = pairs_of x.bot }
-
 -- the name that is the category of the first node
 abbrev pub first_name : List TreeNode → Option ℕ
 first_name [] = None
 first_name (x ∷ xs) = category_name (lists_at x)
-
--- the lists of the nodes of the code
-abbrev pub node_lists : List TreeNode → List (Node Pairs)
-node_lists nodes = map lists_at nodes

@@ -1,5 +1,5 @@
 -- Well-formed trees: what may be wrong with a tree, by the codes of the refusals.
-use Rattle.std.specs.Prelude.{◌≡◌, ◌≢◌, ℕ, ◌<◌, ◌≤◌, List, Option, Some, None, IsTrue, IsFalse, ◌⊎◌, length}
+use Rattle.std.specs.Prelude.{◌≡◌, ◌≢◌, ℕ, ◌<◌, ◌≤◌, Option, Some, None, IsTrue, IsFalse, ◌⊎◌, length}
 use Rattle.gr_base.specs.Lists.{IsAmong}
 use Rattle.gr_base.specs.Forests.{Forest, empty, tree, labels, leaf_labels, inner_labels, map_forest}
 use Rattle.gr_terms.specs.Constants.{ANCHOR, SUBST, FOOT, LEX, EMPTY}

@@ -1,8 +1,10 @@
 //! What is asked of a well-formed tree.
 ghost use Rattle.std.specs.Prelude.{◌≡◌, ◌≤◌, ◌∷◌, [], List, Some, ℕ, length, MatchOption};
 ghost use Rattle.gr_terms.specs.Constants.{ANCHOR, FOOT};
+ghost use Rattle.gr_terms.specs.Networks.{name};
 ghost use Rattle.tg_grammar.specs.Marks.{first_name, mark_number, marked, node_lists};
 ghost use Rattle.tg_grammar.specs.Shapes.{IsWellFormedTree};
+ghost use Rattle.tg_grammar.specs.Spots.{root_category};
 ghost use Rattle.tg_grammar.specs.Surveys.{number_of};
 
 use crate::marks::{Mark, category_name, has_mark};
@@ -32,7 +34,8 @@ pub fn foot(tree: &Tree) -> Option<u8>
 /// The name that is the category of the root of a well-formed tree.
 pub fn root_category(tree: &Tree) -> Sym
     requires { IsWellFormedTree tree.now }
-    ensures { first_name tree.now.nodes ≡ Some result.0 }
+    ensures name { first_name tree.now.nodes ≡ Some result.0 }
+    ensures category { root_category (node_lists tree.now.nodes) ≡ Some (name result.0) }
 {
     match root_name(tree.nodes.as_slice()) {
         Some(name) => name,

@@ -11,6 +11,10 @@
 //!
 //! - `specs/Marks` says what the lists of a node say: the name that is its category, its mark, and
 //!   which nodes of a tree have a mark. The crates above stand on these words too.
+//! - `specs/NamedMarks` says which trees have names alone as marks (`HasNamedMarks`), and `specs/Spots`
+//!   what a node is for derivations: a substitution node, a site, or neither (`spot_of` with the
+//!   category, `kind_of` without). A category that is a variable is a category, so such a node is a
+//!   site. It also has the category of the root, and which trees are auxiliary.
 //! - `specs/Shapes` has all that may be wrong with a tree (`HasFlaw`), as relations on its forest of
 //!   nodes: its root, its nodes, its leaves and its inner nodes. A tree is well formed where none of
 //!   them holds, and its first flaw is that of the lowest code.
@@ -30,13 +34,18 @@
 //! - [`mark_of`], [`has_mark`] and [`category_name`] answer exactly by a node's lists. [`anchor`] gives
 //!   the one anchor of a well-formed tree, [`foot`] its one foot or `None` where it is initial, and
 //!   [`root_category`] the name of its root's category.
+//! - [`kind_of`] tells what a node is for derivations, [`has_category`] whether it has a category, and
+//!   [`is_auxiliary`] whether a tree has a foot, each exactly, of any tree.
+//! - [`has_named_marks`] and [`marks_are_named`] decide whether no mark is a variable.
 //! - [`laws`]: a tree is well formed just where it has a good shape: the marks `subst`, `foot`,
 //!   `anchor`, `coanchor` and `lex` stand just at leaves, one is an anchor, at most one a foot, and the
 //!   categories of the root, of substitution nodes and of feet are names. The nodes of a tree of the
 //!   code are those of its forest. Classes have at most one first refusal, and a grammar has none.
 //!
 //! A value of `mark` that is a variable or another name is no mark. Trees of a metagrammar or of
-//! grammar text have none such, but a tree that is made by hand may.
+//! grammar text have none such, but a tree that is made by hand may. What a tree's terms are equated
+//! with later may then make a mark of the variable; so the layers that put trees together ask for trees
+//! with named marks.
 //!
 //! # How
 //!
@@ -50,7 +59,9 @@ mod flaw;
 mod grammar;
 pub mod laws;
 mod marks;
+mod named;
 mod refusal;
+mod spots;
 mod survey;
 
 pub use facts::{anchor, foot, root_category};
@@ -58,7 +69,9 @@ pub use flaw::Flaw;
 pub use gr_base::Memory;
 pub use grammar::Grammar;
 pub use marks::{Mark, category_name, has_mark, mark_of};
+pub use named::{has_named_marks, marks_are_named};
 pub use refusal::GrammarRefusal;
+pub use spots::{Kind, has_category, is_auxiliary, kind_of};
 pub use survey::first_flaw;
 
 #[cfg(test)]

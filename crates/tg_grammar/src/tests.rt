@@ -301,3 +301,42 @@ fn tree_facts(grammar: &Grammar, name: Sym) -> Option<(u8, Option<u8>, Sym)> {
     let tree = class.trees.get(0);
     Some((anchor(tree), foot(tree), root_category(tree)))
 }
+
+/// What a node with these pairs is, and whether its marks are names.
+fn kind_told(alloc: Global, pairs: &str, symbols: &Symbols) -> Result<(Kind, bool), Memory> {
+    let mut nodes = Items::new(alloc);
+    nodes.push(node(alloc, None, pairs, symbols)?)?;
+    let tree = Tree {
+        nodes,
+        iface: Bag::new(alloc),
+        sem: Items::new(alloc),
+    };
+    let named = marks_are_named(&tree);
+    match tree.nodes.as_slice() {
+        [root] => Ok((kind_of(root), named)),
+        _ => Err(Memory),
+    }
+}
+
+#[test]
+fn a_variable_category_makes_a_site(rt: HostRuntime) -> Result<(), Fail> {
+    let alloc = rt.alloc();
+    let symbols = names(alloc)?;
+    let cases = [
+        ("cat=?1", Kind::Site, true),
+        ("cat=np;mark=anchor", Kind::Site, true),
+        ("cat=np;mark=?1", Kind::Site, false),
+        ("mark=anchor", Kind::Plain, true),
+        ("cat=np;mark=nadj", Kind::Plain, true),
+        ("cat=?1;mark=subst", Kind::Substitution, true),
+        ("mark=subst", Kind::Substitution, true),
+    ];
+    for (pairs, kind, named) in cases {
+        assert_eq!(rt;
+            kind_told(alloc, pairs, &symbols)?,
+            (kind, named),
+            "{pairs}"
+        );
+    }
+    Ok(())
+}

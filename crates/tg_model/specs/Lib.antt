@@ -1,2 +1,3 @@
 pub mod LexicalTrees
 pub mod Instances
+pub mod Selections

@@ -1,6 +1,3 @@
-use Rattle.std.proofs.Common.{◌≡◌, ◌∷◌, [], List, ℕ, Option, Some, None, MatchOption, ap, sym, ◌∙◌}
-use Rattle.gr_terms.specs.Constants.{FOOT}
-use Rattle.tg_grammar.specs.Marks.{marked, node_lists}
 use Rattle.tg_grammar.proofs.FactLemmas.{foot_found}
 use Rattle.tg_grammar.proofs.facts.foot.Goals as goal
 

@@ -1,4 +1,4 @@
-use Rattle.std.proofs.Common.{ap, sym, ◌∙◌, subst}
+use Rattle.std.proofs.Common.{ap, ◌∙◌, subst}
 use Rattle.tg_grammar.specs.Marks.{first_name}
 use Rattle.tg_grammar.specs.Surveys.{IsSurvey, sights}
 use Rattle.tg_grammar.proofs.SurveyLemmas.{first_flaw_seen}

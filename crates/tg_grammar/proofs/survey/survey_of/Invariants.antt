@@ -1,4 +1,4 @@
-use Rattle.std.proofs.Common.{◌≡◌, ◌≤◌, take}
+use Rattle.std.proofs.Common.{◌≡◌, take}
 use Rattle.tg_grammar.specs.Marks.{first_name}
 use Rattle.tg_grammar.specs.Surveys.{IsSurvey, number_of, sights}
 use Rattle.tg_grammar.proofs.survey.survey_of.Given as goal

@@ -1,16 +1,16 @@
-//! Whether the marks of a grammar's nodes are names.
+//! Whether the marks of nodes are names.
 ghost use Rattle.std.specs.Prelude.{◌≡◌, ◌↔◌, ℕ, IsTrue, Some};
 ghost use Rattle.gr_base.specs.Lists.{Each};
 ghost use Rattle.gr_terms.specs.Constants.{MARK};
 ghost use Rattle.gr_terms.specs.Networks.{variable};
 ghost use Rattle.td_canon.specs.TreeSets.{trees_of};
 ghost use Rattle.tg_grammar.specs.Marks.{lists_at, value_of};
-ghost use Rattle.lx_anchor.specs.Anchoring.{HasNamedMarks, HaveNamedMarks, IsNamedMark};
+ghost use Rattle.tg_grammar.specs.NamedMarks.{HasNamedMarks, HaveNamedMarks, IsNamedMark};
 
+use crate::grammar::Grammar;
 use gr_terms::{MARK, Term};
 use td_canon::ClassTrees;
 use td_tree::{Tree, TreeNode};
-use tg_grammar::Grammar;
 
 /// Whether the node has no variable as its mark.
 fn is_named(node: &TreeNode) -> bool
@@ -24,7 +24,7 @@ fn is_named(node: &TreeNode) -> bool
 }
 
 /// Whether no node of the tree has a variable as its mark.
-fn are_named(tree: &Tree) -> bool
+pub fn marks_are_named(tree: &Tree) -> bool
     ensures { IsTrue result ↔ HasNamedMarks tree.now }
 {
     'nodes: for number in 0..tree.nodes.len() {
@@ -40,7 +40,7 @@ fn class_is_named(class: &ClassTrees) -> bool
     ensures { IsTrue result ↔ Each HasNamedMarks (trees_of class.now.trees) }
 {
     'trees: for at in 0..class.trees.len() {
-        if !are_named(class.trees.get(at)) {
+        if !marks_are_named(class.trees.get(at)) {
             return false;
         }
     }

@@ -1,5 +1,5 @@
-use Rattle.lx_anchor.proofs.MarkedLemmas.{name-named, none-named, variable-named}
-use Rattle.lx_anchor.proofs.marks.is_named.Goals as goal
+use Rattle.tg_grammar.proofs.NamedLemmas.{name-named, none-named, variable-named}
+use Rattle.tg_grammar.proofs.named.is_named.Goals as goal
 
 pub returns-in-Some-Var : goal.returns-in-Some-Var
 returns-in-Some-Var c = variable-named c.args.node.now c.in-Some-Var.field-0 _ c.get.ensures.listed c.in-Some-Var.ensures.value c.in-Some-Var.field-0-is

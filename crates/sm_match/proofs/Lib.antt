@@ -4,6 +4,7 @@ pub mod TreeLemmas
 pub mod ListingLemmas
 pub mod PlaceLemmas
 pub mod LawLemmas
+pub mod AlikeLemmas
 pub mod SearchLemmas
 pub mod MatchLemmas
 pub mod TestLemmas

@@ -1,15 +1,19 @@
 -- Instances of one lexical tree after the other.
-use Rattle.std.specs.Prelude.{◌≡◌, ℕ, ◌+◌, ◌<◌, ◌≤◌, List, [], length, slice_get, Bool, true, false, nat_eq, Some, Err, ◌⊎◌, refl}
+use Rattle.std.specs.Prelude.{◌≡◌, ℕ, ◌+◌, ◌<◌, ◌≤◌, List, [], length, slice_get, Bool, true, false, nat_eq, Some, Result, Ok, Err, IfOk, ◌⊎◌, refl}
 use Rattle.std.proofs.Common.{inl, inr, ap, sym, ◌∙◌, subst, arith}
 use Rattle.std.proofs.lemmas.Bool.{eqb-true, eqb-false}
 use Rattle.std.proofs.lemmas.Option.{same_Some, slice_get_within}
 use Rattle.gr_base.specs.Lists.{Each, IsAmong}
 use Rattle.gr_base.proofs.ListLemmas.{Each-members, Each-at}
+use Rattle.gr_terms.specs.LiteralViews.{AreConst}
 use Rattle.gr_terms.specs.declared.Literal.{Literal}
 use Rattle.tg_model.specs.declared.instance.TheConstants.{INSTANCE_LIMIT}
 use Rattle.tg_model.specs.declared.instance.Instance.{Instance}
 use Rattle.tg_model.specs.declared.lexical.LexicalTree.{LexicalTree}
-use Rattle.tg_model.specs.Instances.{MayStandAt, IsInstance, IsSooner, InOrder}
+use Rattle.tg_model.specs.declared.instance.Selection.{Selection}
+use Rattle.tg_model.specs.Instances.{AreInstances, MayStandAt, IsInstance, IsSooner, InOrder}
+use Rattle.tg_model.specs.LexicalTrees.{AreLexical}
+use Rattle.tg_model.specs.Selections.{IsSelectionOf}
 use Rattle.sm_match.specs.Answers.{IsSelection, HasTooMany, IsAnswer}
 use Rattle.sm_match.specs.declared.refusal.SelectRefusal.{SelectRefusal}
 use Rattle.sm_match.specs.declared.refusal.SelectRefusal.TheVariants.{Over, Memory}
@@ -74,3 +78,15 @@ pub answer_err : (U : Type 0) (trees : List LexicalTree) (input : List Literal) 
     → IsAnswer trees input (Err e)
 answer_err U trees input P old new Over over h = over h
 answer_err U trees input P old new Memory over h = tt
+
+-- the right answer is what the layers above ask for
+pub selection_of : (trees : List LexicalTree) (input : List Literal) → AreLexical trees → Each AreConst input → length input ≤ 24
+    → (r : Result Selection SelectRefusal) → IsAnswer trees input r → IfOk r (IsSelectionOf trees)
+selection_of trees input lexical ground few (Ok s) is = record {
+  lexical = lexical;
+  ground = subst (Each AreConst) (sym is.literals) ground;
+  few = subst (λ ls. length ls ≤ 24) (sym is.literals) few;
+  instances = subst (λ ls. AreInstances trees ls s.instances) (sym is.literals) is.instances;
+  at_most = is.few;
+}
+selection_of trees input lexical ground few (Err e) is = tt

@@ -15,7 +15,7 @@ use Rattle.gr_terms.proofs.NetworkLemmas.{Agrees-part}
 use Rattle.gr_terms.specs.declared.Term.{Term}
 use Rattle.gr_terms.specs.declared.Term.TheVariants.{Const, Var}
 use Rattle.gr_terms.specs.declared.Literal.{Literal}
-use Rattle.td_tree.specs.Trees.{AreTreeNodes}
+use Rattle.td_tree.specs.Trees.{AreTreeNodes, HasListedBags}
 use Rattle.td_tree.specs.TreeNetworks.{tree_network}
 use Rattle.td_tree.specs.TreeViews.{decorated_of}
 use Rattle.td_tree.specs.declared.Tree.{Tree}
@@ -24,7 +24,7 @@ use Rattle.tg_model.specs.Instances.{equations, equations_at, place_equations, F
 use Rattle.sm_match.specs.declared.bindings.Bound.{Bound}
 use Rattle.sm_match.specs.Bindings.{TreeNetwork, Solves, Equates}
 use Rattle.sm_match.specs.Index.{wanted_name, may_be}
-use Rattle.sm_match.specs.Tasks.{HasListedBags, FitFirst, IsBegun, GoesOnFrom}
+use Rattle.sm_match.specs.Tasks.{FitFirst, IsBegun, GoesOnFrom}
 use Rattle.sm_match.proofs.IndexLemmas.{SuitsAt, suits_both}
 use Rattle.sm_match.proofs.TreeLemmas.{agrees_with}
 

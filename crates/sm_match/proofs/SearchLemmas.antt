@@ -4,13 +4,12 @@ use Rattle.std.proofs.Common.{inl, inr, ap, sym, ◌∙◌, subst, get_or, take,
 use Rattle.std.proofs.lemmas.Bool.{false≢true}
 use Rattle.std.proofs.lemmas.List.{take_more, length_push}
 use Rattle.std.proofs.lemmas.Option.{none-some, same_Some}
-use Rattle.gr_base.specs.Lists.{IsAmong, Each, IsRising, IsBefore}
+use Rattle.gr_base.specs.Lists.{IsAmong, IsRising, IsBefore}
 use Rattle.gr_base.proofs.ListLemmas.{IsAmong-append_left, IsAmong-one_more, IsAmong-new_one, Each-at}
 use Rattle.gr_base.proofs.RisingKeys.{lower-take}
 use Rattle.gr_terms.specs.Canonical.{literal_terms}
-use Rattle.gr_terms.specs.LiteralViews.{literal_of, AreConst}
+use Rattle.gr_terms.specs.LiteralViews.{literal_of}
 use Rattle.gr_terms.specs.declared.Literal.{Literal}
-use Rattle.td_tree.specs.declared.Tree.{Tree}
 use Rattle.tg_model.specs.Instances.{equations, FitsPlace, MayStandAt, IsSooner}
 use Rattle.tg_model.specs.declared.instance.TheConstants.{INSTANCE_LIMIT}
 use Rattle.tg_model.specs.declared.instance.Instance.{Instance}
@@ -154,17 +153,6 @@ module _ (task : Task) (ps : List ℕ) where
     suited_fits p i =
         let s : SuitsAt (wanted_name l.pred) (length l.args) task.input.now p = place_suits (wanted_name l.pred) (length l.args) task.input.now p i in
         (s.literal, s.at, suits_arity (wanted_name l.pred) (length l.args) s.literal s.suited)
-
--- a literal that suits no place keeps the tree from standing anywhere
-pub no_place : (input : List Literal) (t : Tree) (l : Literal) (k : ℕ) (found : List ℕ) → Each AreConst input → slice_get t.sem k ≡ Some l
-    → found ≡ suiting 0 (wanted_name l.pred) (length l.args) input → length found ≡ 0 → (ps : List ℕ) → MayStandAt input t ps → ⊥
-no_place input t l k found ground at is empty ps stands =
-    let r = stands_at input t ps k l ground stands at in
-    nothing found empty r.place (subst (λ xs. IsAmong xs r.place) (sym is) (suits_place (wanted_name l.pred) (length l.args) input r.place r.suited))
-  where
-    nothing : (xs : List ℕ) → length xs ≡ 0 → (p : ℕ) → IsAmong xs p → ⊥
-    nothing [] e p i = i
-    nothing (x ∷ xs) e p i = absurd (omega arith)
 
 -- ---- going back
 

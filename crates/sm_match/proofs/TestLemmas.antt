@@ -1,12 +1,15 @@
 -- What the lexical trees of the tests are.
-use Rattle.std.specs.Prelude.{◌≡◌, ℕ, List, [], ◌∷◌, map, length, Bool, false, if◌then◌else◌, None}
-use Rattle.std.proofs.Common.{ap, sym, ◌∙◌, arith}
+use Rattle.std.specs.Prelude.{◌≡◌, ℕ, List, [], ◌∷◌, map, length, Bool, true, false, if◌then◌else◌, None}
+use Rattle.std.proofs.Common.{ap, sym, ◌∙◌, subst, arith}
 use Rattle.gr_base.specs.Forests.{empty, tree}
-use Rattle.gr_terms.specs.Constants.{COANCHOR}
+use Rattle.gr_base.specs.Lists.{Each}
+use Rattle.gr_terms.specs.Constants.{ANCHOR, COANCHOR}
 use Rattle.td_tree.specs.Trees.{AreTreeNodes}
 use Rattle.td_tree.specs.declared.TreeNode.{TreeNode}
 use Rattle.tg_grammar.specs.Marks.{is_marked, lists_at, marked, node_lists}
+use Rattle.tg_grammar.specs.NamedMarks.{IsNamedMark}
 use Rattle.tg_grammar.specs.Shapes.{IsWellFormedTree}
+use Rattle.tg_grammar.proofs.NamedLemmas.{marked-named}
 use Rattle.tg_model.specs.LexicalTrees.{IsLexical}
 use Rattle.tg_model.specs.declared.lexical.LexicalTree.{LexicalTree}
 
@@ -20,9 +23,10 @@ one_node nodes x are root = record {
 }
 
 -- a lexical tree of it
-pub lexical_one : (l : LexicalTree) (x : TreeNode) → l.tree.nodes ≡ x ∷ [] → l.coanchors ≡ [] → is_marked COANCHOR (lists_at x) ≡ false → (l.tree.sem ≡ [] → ⊥) → IsWellFormedTree l.tree → IsLexical l
-lexical_one l x are none unmarked some well_formed = record {
+pub lexical_one : (l : LexicalTree) (x : TreeNode) → l.tree.nodes ≡ x ∷ [] → l.coanchors ≡ [] → is_marked COANCHOR (lists_at x) ≡ false → is_marked ANCHOR (lists_at x) ≡ true → (l.tree.sem ≡ [] → ⊥) → IsWellFormedTree l.tree → IsLexical l
+lexical_one l x are none unmarked anchored some well_formed = record {
   well_formed = well_formed;
+  named = subst (λ ns. Each IsNamedMark (node_lists ns)) (sym are) (marked-named ANCHOR (lists_at x) anchored, tt);
   literal = some;
   coanchors =
       ap (λ (cs : List (ℕ × _)). map (λ c. c.0) cs) none

@@ -13,14 +13,13 @@ use Rattle.gr_terms.specs.Networks.{Term, name, entry, equate, link, Agrees, Are
 use Rattle.gr_terms.proofs.ViewLemmas.{IsRising-pairs_of}
 use Rattle.gr_terms.specs.declared.Sym.{Sym}
 use Rattle.gr_terms.specs.declared.Term.{Term as CodeTerm}
-use Rattle.td_tree.specs.Trees.{AreTreeNodes, BagPairs, IsListedNode, node_of, preorder}
+use Rattle.td_tree.specs.Trees.{AreTreeNodes, BagPairs, HasListedBags, IsListedNode, node_of, preorder}
 use Rattle.td_tree.specs.TreeNetworks.{Part, own_part, top_part, bottom_part, TreeSlot, at_node, at_interface, tree_network}
 use Rattle.td_tree.specs.TreeViews.{Pairs, lists_of, decorated_of}
 use Rattle.td_tree.proofs.TreeNetworkLemmas.{list_of, TreeEntry, in_node, in_interface, tree_entry, IsPairAt, entry_pair}
 use Rattle.td_tree.specs.declared.Tree.{Tree}
 use Rattle.sm_match.specs.declared.bindings.Bound.{Bound}
 use Rattle.sm_match.specs.Bindings.{TreeNetwork, value_by, Solves}
-use Rattle.sm_match.specs.Tasks.{HasListedBags}
 
 -- ---- each attribute once
 

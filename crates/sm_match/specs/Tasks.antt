@@ -1,10 +1,9 @@
 -- What a search of the instances of one lexical tree is for, and where it stands.
 use Rattle.std.specs.Prelude.{◌≡◌, ℕ, ◌≤◌, ⊤, List, [], ◌∷◌, ◌++◌, length, Bool, true, false}
 use Rattle.gr_base.specs.Lists.{Each, NoneTwice}
-use Rattle.gr_terms.specs.Bags.{IsListed}
 use Rattle.gr_terms.specs.LiteralViews.{literals_of, AreConst}
 use Rattle.gr_terms.specs.declared.Literal.{Literal}
-use Rattle.td_tree.specs.Trees.{AreTreeNodes, IsListedNode}
+use Rattle.td_tree.specs.Trees.{AreTreeNodes, HasListedBags}
 use Rattle.td_tree.specs.declared.Tree.{Tree}
 use Rattle.tg_model.specs.Instances.{FitsPlace, place_equations, MayStandAt}
 use Rattle.tg_model.specs.declared.instance.Instance.{Instance}
@@ -12,11 +11,6 @@ use Rattle.sm_match.specs.declared.bindings.Bound.{Bound}
 use Rattle.sm_match.specs.declared.search.Task.{Task}
 use Rattle.sm_match.specs.Bindings.{Solves, GoesOn}
 use Rattle.sm_match.specs.Index.{IsIndex}
-
--- each bag of the tree has its attributes by rising number, as all bags of the code do
-pub record HasListedBags (t : Tree) : Type 0 where
-  pub nodes : Each IsListedNode t.nodes
-  pub iface : IsListed t.iface
 
 -- what matching relies on: a tree whose bags have each attribute once, and few literals without variables, with their index
 pub record IsTask (task : Task) : Type 0 where

@@ -1,5 +1,5 @@
 //! The places of an input, by the predicate of the literal there and its number of arguments.
-ghost use Rattle.std.specs.Prelude.{◌≡◌, ◌≤◌, Bool, true, List, [], ◌∷◌, ◌++◌, length, IfOk, OnOk, Decides, MatchOption};
+ghost use Rattle.std.specs.Prelude.{◌≡◌, ◌≤◌, Bool, true, List, [], ◌∷◌, ◌++◌, count_by, length, IfOk, OnOk, Decides, MatchOption};
 ghost use Rattle.gr_base.specs.Lists.{IsAmong};
 ghost use Rattle.gr_terms.specs.declared.Literal.{Literal};
 ghost use Rattle.sm_match.specs.declared.index.Row.{Row};
@@ -151,6 +151,19 @@ fn places_in<'a>(rows: &'a [Row], pred: Option<Sym>, arity: usize) -> &'a [u8]
         Some(row) => row.places.as_slice(),
         None => &[],
     }
+}
+
+/// How many of the literals have the predicate of this one, or any where that is a variable, and as
+/// many arguments.
+pub fn alike(literals: &[Literal], literal: &Literal) -> usize
+    ensures { result ≡ count_by (suits (wanted_name literal.now.pred) (length literal.now.args)) literals.now }
+{
+    let pred = wanted_name(literal.pred);
+    let arity = literal.args.len();
+    literals
+        .iter()
+        .filter(|other| arity == other.args.len() && may_be(pred, other.pred))
+        .count()
 }
 
 impl Index {

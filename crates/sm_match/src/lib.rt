@@ -15,7 +15,8 @@
 //!
 //! - `index`: the places of an input stand in rows, one for each predicate with a number of
 //!   arguments, and one for each number of arguments. So a literal of a tree meets only the places
-//!   that suit it, and a tree with no place for one of its literals is left at once.
+//!   that suit it. A tree that has more literals of one predicate and number of arguments than there
+//!   are places for them is left at once, before anything is searched.
 //! - `bindings`: what an input's literals equate are names, so that equating only binds variables of
 //!   the tree to names. The bindings are a short list, to which a search adds and from which it takes
 //!   back. A tree's own network links nothing, since its bags have each attribute once; so it agrees
@@ -25,7 +26,8 @@
 //!
 //! # Contract for the layer above
 //!
-//! - [`select`] promises the right answer, `IsAnswer`.
+//! - [`select`] promises the right answer, `IsAnswer`, and that what it selects is what `tg_model` has
+//!   as the condition of the layers above, `IsSelectionOf`.
 //! - [`laws`]: one answer besides want of memory is right, and what an instance covers: at least one
 //!   place, at most as many as the input has, all within it.
 #![tactic(auto)]

@@ -1,8 +1,9 @@
 //! Selects all instances.
-ghost use Rattle.std.specs.Prelude.{◌≡◌, ◌≤◌, [], length, OnOk};
+ghost use Rattle.std.specs.Prelude.{◌≡◌, ◌≤◌, [], length, IfOk, OnOk};
 ghost use Rattle.gr_base.specs.Lists.{Each};
 ghost use Rattle.td_tree.specs.Trees.{AreTreeNodes};
 ghost use Rattle.tg_model.specs.LexicalTrees.{AreLexical};
+ghost use Rattle.tg_model.specs.Selections.{IsSelectionOf};
 ghost use Rattle.gr_terms.specs.LiteralViews.{AreConst};
 ghost use Rattle.sm_match.specs.Answers.{IsAnswer};
 ghost use Rattle.sm_match.specs.Index.{IsIndex};
@@ -12,12 +13,12 @@ ghost use Rattle.sm_match.specs.Tasks.{GoesOnFrom};
 use crate::copy::copied_literals;
 use crate::index::Index;
 use crate::refusal::SelectRefusal;
-use crate::search::{State, Task, bags_are_listed, extend, has_places};
+use crate::search::{State, Task, extend, has_places};
 use gr_base::Items;
 use gr_terms::Literal;
 use sm_input::Input;
 use std::alloc::Global;
-use td_tree::Tree;
+use td_tree::{Tree, bags_are_listed};
 use tg_model::{LexicalTrees, Selection};
 
 /// Finds all instances of the lexical tree with this number. A number that is too large for an
@@ -58,8 +59,9 @@ fn select_tree(
 
 /// All instances of the lexical trees over the literals of the input, by lexical tree and then by the
 /// list of places, or the answer that they are too many. The lexical trees have to be well formed and
-/// to have literals, and the input's literals have to be without variables, at most 24. What else the
-/// input says isn't looked at.
+/// to have literals and names as marks, and the input's literals have to be without variables, at most
+/// 24. What else the input says isn't looked at. A tree that has more literals of one predicate than
+/// the input has costs no search.
 pub fn select(
     alloc: Global,
     trees: &LexicalTrees,
@@ -68,7 +70,8 @@ pub fn select(
     requires lexical { AreLexical trees.now }
     requires ground { Each AreConst input.now.literals }
     requires few { length input.now.literals ≤ 24 }
-    ensures { IsAnswer trees.now input.now.literals result }
+    ensures answer { IsAnswer trees.now input.now.literals result }
+    ensures selection { IfOk result (IsSelectionOf trees.now) }
 {
     let literals = input.literals.as_slice();
     let index = Index::new(alloc, literals)?;

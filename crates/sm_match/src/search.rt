@@ -2,24 +2,22 @@
 ghost use Rattle.std.specs.Prelude.{◌≡◌, ℕ, ◌<◌, ◌≤◌, List, [], ◌∷◌, ◌++◌, length, IfOk, IfErr, OnOk, Decides, slice_get, Some};
 ghost use Rattle.std.specs.Bool.{OnFalse};
 ghost use Rattle.gr_base.specs.Lists.{Each, IsAmong};
-ghost use Rattle.gr_terms.specs.Bags.{IsListed};
 ghost use Rattle.gr_terms.specs.LiteralViews.{AreConst};
 ghost use Rattle.sm_match.specs.Index.{IsIndex};
-ghost use Rattle.td_tree.specs.Trees.{IsListedNode};
 ghost use Rattle.tg_model.specs.Instances.{FitsPlace, MayStandAt};
 ghost use Rattle.tg_model.specs.declared.instance.TheConstants.{INSTANCE_LIMIT};
 ghost use Rattle.tg_model.specs.declared.instance.Instance.{Instance};
 ghost use Rattle.sm_match.specs.declared.refusal.SelectRefusal.TheVariants as refusal;
 ghost use Rattle.sm_match.specs.Listings.{Finds};
-ghost use Rattle.sm_match.specs.Tasks.{HasListedBags, IsTask, IsBegun, IsFrom, Puts};
+ghost use Rattle.sm_match.specs.Tasks.{IsTask, IsBegun, IsFrom, Puts};
 
 use crate::bindings::{Bound, equate_literal};
-use crate::index::Index;
+use crate::index::{Index, alike};
 use crate::refusal::SelectRefusal;
 use gr_base::Memory;
-use gr_terms::{Bag, Literal};
+use gr_terms::Literal;
 use std::alloc::Global;
-use td_tree::{Tree, TreeNode};
+use td_tree::Tree;
 use tg_model::{INSTANCE_LIMIT, Instance, Instances, Places};
 
 /// What a search is for.
@@ -45,40 +43,16 @@ pub struct State {
     pub found: Instances,
 }
 
-/// Each bag says that its attributes rise.
-fn bag_is_listed(bag: &Bag)
-    ensures { IsListed bag.now }
-{
-    let _pairs = bag.len();
-}
-
-fn node_is_listed(node: &TreeNode)
-    ensures { IsListedNode node.now }
-{
-    bag_is_listed(&node.own);
-    bag_is_listed(&node.top);
-    bag_is_listed(&node.bot);
-}
-
-/// The bags of a tree have each attribute once, so that the tree's own network links nothing. It only
-/// asks each bag, which a few reads do.
-pub fn bags_are_listed(tree: &Tree)
-    ensures { HasListedBags tree.now }
-{
-    bag_is_listed(&tree.iface);
-    for node in tree.nodes.as_slice() {
-        node_is_listed(node);
-    }
-}
-
-/// Whether there is a place for each literal of a tree, by its predicate and number of arguments.
+/// Whether there are as many places for each literal of a tree as the tree has literals that want
+/// them, by predicate and number of arguments. Without this test a tree of 13 literals of one
+/// predicate would be tried in all orders over 12 places.
 pub fn has_places(tree: &Tree, input: &[Literal], index: &Index) -> bool
     requires ground { Each AreConst input.now }
     requires index { IsIndex input.now index.now }
     ensures { OnFalse result ((places : List ℕ) → MayStandAt input.now tree.now places → ⊥) }
 {
     for literal in tree.sem.as_slice() {
-        if index.places(literal).is_empty() {
+        if index.places(literal).len() < alike(tree.sem.as_slice(), literal) {
             return false;
         }
     }

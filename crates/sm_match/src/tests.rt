@@ -68,7 +68,7 @@ fn lexical(alloc: Global, sem: Literals) -> Result<LexicalTree, Memory>
         top: Bag::new(alloc),
         bot: Bag::new(alloc),
     };
-    if sem.len() == 0 || has_mark(&root, Mark::Coanchor) {
+    if sem.len() == 0 || has_mark(&root, Mark::Coanchor) || !has_mark(&root, Mark::Anchor) {
         return Err(Memory);
     }
     let mut nodes = Items::new(alloc);
@@ -209,6 +209,19 @@ fn places_are_different(rt: HostRuntime) -> Result<(), Fail> {
     // A literal that is written twice is one place.
     let twice = selected(alloc, &["?0 p ?1"], "input i { a:p(x) b:q(x) a:p(x) }")?;
     assert_eq!(rt; twice.as_str(), " 0:0,");
+    Ok(())
+}
+
+#[test]
+fn too_many_literals_of_a_predicate_cost_no_search(rt: HostRuntime) -> Result<(), Fail> {
+    let alloc = rt.alloc();
+    let named =
+        "?0 p ?1;?0 p ?2;?0 p ?3;?0 p ?4;?0 p ?5;?0 p ?6;?0 p ?7;?0 p ?8;?0 p ?9;?0 p ?10;?0 p ?11;?0 p ?12;?0 p ?13";
+    let any = "?0 ?1;?0 ?2;?0 ?3;?0 ?4;?0 ?5;?0 ?6;?0 ?7;?0 ?8;?0 ?9;?0 ?10;?0 ?11;?0 ?12;?0 ?13";
+    let text =
+        "input i { h:p(a) h:p(b) h:p(c) h:p(d) h:p(e) h:p(f) h:p(g) h:p(i) h:p(j) h:p(k) h:p(l) h:p(m) h:q() h:r() h:s() h:t() h:u() h:v() h:w() h:x() h:y() h:z() h:a() h:b() }";
+    let told = selected(alloc, &[named, "?0 q", any, "?0 p m"], text)?;
+    assert_eq!(rt; told.as_str(), " 1:12, 3:11,");
     Ok(())
 }
 

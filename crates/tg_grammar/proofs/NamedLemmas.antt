@@ -6,13 +6,15 @@ use Rattle.std.proofs.lemmas.Option.{none-some, same_Some, slice_get-map}
 use Rattle.gr_base.specs.Lists.{IsAmong, Each}
 use Rattle.gr_base.proofs.ListLemmas.{Each-at, IsAmong-slice_get}
 use Rattle.gr_terms.specs.Bags.{IsListed, LacksAttribute}
+use Rattle.gr_terms.specs.Canonical.{Node}
 use Rattle.gr_terms.specs.Constants.{MARK}
 use Rattle.gr_terms.specs.Networks.{name, variable}
 use Rattle.gr_terms.specs.Views.{term_of}
 use Rattle.gr_terms.specs.declared.Term.{Term}
 use Rattle.gr_terms.specs.declared.Term.TheVariants.{Const, Var}
+use Rattle.td_tree.specs.TreeViews.{Pairs}
 use Rattle.td_tree.specs.declared.TreeNode.{TreeNode}
-use Rattle.tg_grammar.specs.Marks.{lists_at, node_lists}
+use Rattle.tg_grammar.specs.Marks.{is_marked, is_number, lists_at, name_of, node_lists}
 use Rattle.tg_grammar.proofs.MarkLemmas.{value_of-among, value_of-lacks}
 use Rattle.tg_grammar.specs.NamedMarks.{IsNamedMark}
 
@@ -40,3 +42,7 @@ not-each P xs i x at h = (λ no-way. absurd (false≢true no-way), λ each. h.1 
 -- the lists of a node stand at its number
 pub lists-there : (nodes : List TreeNode) (i : ℕ) (x : TreeNode) → slice_get nodes i ≡ Some x → slice_get (node_lists nodes) i ≡ Some (lists_at x)
 lists-there nodes i x at = slice_get-map lists_at nodes i ∙ ap (option_map lists_at) at
+
+-- a mark is a name
+pub marked-named : (m : ℕ) (n : Node Pairs) → is_marked m n ≡ true → IsNamedMark n
+marked-named m n marked v e = false≢true (sym (ap (λ o. is_number (name_of o) m) e) ∙ marked)

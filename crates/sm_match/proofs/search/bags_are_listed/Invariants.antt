@@ -1,7 +1,0 @@
-use Rattle.std.proofs.Common.{take}
-use Rattle.gr_base.specs.Lists.{Each}
-use Rattle.td_tree.specs.Trees.{IsListedNode}
-use Rattle.sm_match.proofs.search.bags_are_listed.Given as goal
-
-abbrev pub invariant-loop-node : goal.invariant-loop-node
-invariant-loop-node l = Each IsListedNode (take l.node-index l.node-items)

@@ -24,7 +24,8 @@ use Rattle.gr_feats.specs.declared.gathered.Gathered.{Gathered}
 use Rattle.gr_feats.specs.Grammars.{bag_text, bag_of, closed_literals_text, closed_literals_of}
 use Rattle.gr_feats.specs.Numberings.{Numbering}
 use Rattle.gr_feats.specs.Readings.{IsBag, AreLiterals}
-use Rattle.gr_feats.specs.Answers.{place_of_left, IsBagAt, AreLiteralsAt, IsRefusedAt}
+use Rattle.gr_feats.specs.Answers.{place_of_left, IsBagAt, AreLiteralsAt, IsRefusedAt, IsTableAt}
+use Rattle.gr_feats.specs.Tables.{PutsNames}
 use Rattle.gr_feats.proofs.ReadingLemmas.{bag_is_clear, closed_literals_are_clear, shorter}
 
 abbrev pub from_on : List ℕ → List Token → ℕ → List Lexeme
@@ -78,6 +79,10 @@ literals_there bytes tokens at texts before after rest list closing within r rea
       read = read;
       closing = behind ∙ omega arith;
     }
+
+-- the table behind a text that was taken
+pub table_there : (g : Grammar Class) (bytes : List ℕ) (tokens : List Token) (at : ℕ) (old new : List (List ℕ)) (rest : List Lexeme) → PutsNames g old new (from_on bytes tokens at) rest → IsTableAt g bytes tokens at old new
+table_there g bytes tokens at old new rest p = (rest, subst (λ ts. PutsNames g old new ts rest) (from_there bytes tokens at) p)
 
 -- where reading stopped, no text begins
 pub refused_there : (g : Grammar Class) (clear : is_clear flat g ≡ true) (bytes : List ℕ) (tokens : List Token) (at : ℕ) (rest : List Lexeme) (stop : Stop) (refused : ReadRefusal) → at ≤ length tokens

@@ -5,6 +5,8 @@ pub mod OneAnswer
 pub mod AnswerLemmas
 pub mod ReadingLemmas
 pub mod PassingLemmas
+pub mod TableLemmas
+pub mod OneTable
 pub mod GatherLemmas
 pub mod NumberingLemmas
 pub mod CanonicalLemmas

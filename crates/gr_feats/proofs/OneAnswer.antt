@@ -28,7 +28,7 @@ use Rattle.gr_feats.specs.declared.gathered.Gathered.{Gathered}
 use Rattle.gr_feats.specs.Grammars.{Written, a_name, a_variable, WrittenPair, bag_text, bag_of, closed_literals_text, closed_literals_of}
 use Rattle.gr_feats.specs.Numberings.{Numbering, Meets, IsNumbering}
 use Rattle.gr_feats.specs.Readings.{IsTerm, InTurn, IsPair, attributes, IsAgain, Gathers, IsBag, IsHandle, IsLiteral, AreLiterals}
-use Rattle.gr_feats.specs.Answers.{place_of_left, IsBagAt, AreLiteralsAt, IsNoTextAt, IsRefusedAt, IsBagAnswer, IsLiteralsAnswer}
+use Rattle.gr_feats.specs.Answers.{place_of_left, IsBagAt, AreLiteralsAt, IsNoTextAt, IsRefusedAt, IsBagReading, IsLiteralsReading}
 use Rattle.gr_feats.proofs.NumberingLemmas.{IsNumbering-with_name, IsNumbering-with_own}
 use Rattle.gr_feats.proofs.ReadingLemmas.{bag_is_clear, closed_literals_are_clear}
 
@@ -247,16 +247,16 @@ module _ (bytes : List ℕ) (tokens : List Token) (at : ℕ) (texts : List (List
       let same = one_reading g clear value there (Ok x) (Err a.2.0) h a.2.1 in
       cc
 
-  pub one_bag_answer : (a b : Numbering) (x y : Result (Bag × ℕ × Option Place) ReadRefusal) → (x ≡ Err refusal.Memory → ⊥) → (y ≡ Err refusal.Memory → ⊥)
-      → IsBagAnswer bytes tokens at texts before a x → IsBagAnswer bytes tokens at texts before b y → x ≡ y
-  one_bag_answer a b (Ok x) (Ok y) m n h k = ap Ok (one_bag_at a b x y h k).0
-  one_bag_answer a b (Ok x) (Err r) m n h k = absurd (no_place bag_text bag_is_clear (λ ts rest m. bag_of m) (h.pairs, h.passed) r (λ e. n (ap Err e)) h.front k)
-  one_bag_answer a b (Err r) (Ok y) m n h k = absurd (no_place bag_text bag_is_clear (λ ts rest m. bag_of m) (k.pairs, k.passed) r (λ e. m (ap Err e)) k.front h)
-  one_bag_answer a b (Err r) (Err s) m n h k = ap Err (one_refusal bag_text bag_is_clear r s (λ e. m (ap Err e)) (λ e. n (ap Err e)) h k)
+  pub one_bag_reading : (a b : Numbering) (x y : Result (Bag × ℕ × Option Place) ReadRefusal) → (x ≡ Err refusal.Memory → ⊥) → (y ≡ Err refusal.Memory → ⊥)
+      → IsBagReading bytes tokens at texts before a x → IsBagReading bytes tokens at texts before b y → x ≡ y
+  one_bag_reading a b (Ok x) (Ok y) m n h k = ap Ok (one_bag_at a b x y h k).0
+  one_bag_reading a b (Ok x) (Err r) m n h k = absurd (no_place bag_text bag_is_clear (λ ts rest m. bag_of m) (h.pairs, h.passed) r (λ e. n (ap Err e)) h.front k)
+  one_bag_reading a b (Err r) (Ok y) m n h k = absurd (no_place bag_text bag_is_clear (λ ts rest m. bag_of m) (k.pairs, k.passed) r (λ e. m (ap Err e)) k.front h)
+  one_bag_reading a b (Err r) (Err s) m n h k = ap Err (one_refusal bag_text bag_is_clear r s (λ e. m (ap Err e)) (λ e. n (ap Err e)) h k)
 
-  pub one_literals_answer : (a b : Numbering) (x y : Result (List Literal × ℕ) ReadRefusal) → (x ≡ Err refusal.Memory → ⊥) → (y ≡ Err refusal.Memory → ⊥)
-      → IsLiteralsAnswer bytes tokens at texts before a x → IsLiteralsAnswer bytes tokens at texts before b y → x ≡ y
-  one_literals_answer a b (Ok x) (Ok y) m n h k = ap Ok (one_literals_at a b x y h k).0
-  one_literals_answer a b (Ok x) (Err r) m n h k = absurd (no_place closed_literals_text closed_literals_are_clear (λ ts rest m. closed_literals_of m) (h.literals, h.passed) r (λ e. n (ap Err e)) h.front k)
-  one_literals_answer a b (Err r) (Ok y) m n h k = absurd (no_place closed_literals_text closed_literals_are_clear (λ ts rest m. closed_literals_of m) (k.literals, k.passed) r (λ e. m (ap Err e)) k.front h)
-  one_literals_answer a b (Err r) (Err s) m n h k = ap Err (one_refusal closed_literals_text closed_literals_are_clear r s (λ e. m (ap Err e)) (λ e. n (ap Err e)) h k)
+  pub one_literals_reading : (a b : Numbering) (x y : Result (List Literal × ℕ) ReadRefusal) → (x ≡ Err refusal.Memory → ⊥) → (y ≡ Err refusal.Memory → ⊥)
+      → IsLiteralsReading bytes tokens at texts before a x → IsLiteralsReading bytes tokens at texts before b y → x ≡ y
+  one_literals_reading a b (Ok x) (Ok y) m n h k = ap Ok (one_literals_at a b x y h k).0
+  one_literals_reading a b (Ok x) (Err r) m n h k = absurd (no_place closed_literals_text closed_literals_are_clear (λ ts rest m. closed_literals_of m) (h.literals, h.passed) r (λ e. n (ap Err e)) h.front k)
+  one_literals_reading a b (Err r) (Ok y) m n h k = absurd (no_place closed_literals_text closed_literals_are_clear (λ ts rest m. closed_literals_of m) (k.literals, k.passed) r (λ e. m (ap Err e)) k.front h)
+  one_literals_reading a b (Err r) (Err s) m n h k = ap Err (one_refusal closed_literals_text closed_literals_are_clear r s (λ e. m (ap Err e)) (λ e. n (ap Err e)) h k)

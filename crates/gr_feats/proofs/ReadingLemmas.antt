@@ -6,7 +6,7 @@ use Rattle.gr_terms.specs.declared.Term.{Term}
 use Rattle.gr_terms.specs.declared.Term.TheVariants.{Const, Var}
 use Rattle.gr_symbols.specs.Numbers.{Grows}
 use Rattle.gr_symbols.proofs.NumberLemmas.{Grows-trans}
-use Rattle.gr_grammar.specs.Grammars.{Grammar, tok, begins, is_next, is_clear, nullable, Matches, Runs, took, tree_of, items, Rounds, start, round, round_items}
+use Rattle.gr_grammar.specs.Grammars.{Grammar, tok, star, begins, is_next, is_clear, nullable, Matches, Runs, took, tree_of, items, Rounds, start, round, round_items}
 use Rattle.gr_grammar.proofs.Fronts.{null_of}
 use Rattle.gr_grammar.proofs.Loops.{ended, ended-items}
 use Rattle.gr_reader.specs.Lexemes.{Lexeme}
@@ -16,7 +16,9 @@ use Rattle.gr_reader.proofs.Systems.{flat_is_system}
 use Rattle.gr_feats.specs.declared.gathered.Pair.{Pair}
 use Rattle.gr_feats.specs.declared.gathered.Gathered.{Gathered}
 use Rattle.gr_feats.specs.Passing.{Passes}
+use Rattle.gr_feats.specs.Tables.{PutsNames}
 use Rattle.gr_feats.proofs.PassingLemmas.{stay, pass_then}
+use Rattle.gr_feats.proofs.TableLemmas.{puts_start, puts_more}
 use Rattle.gr_feats.specs.declared.terms.Side.{Side}
 use Rattle.gr_feats.specs.declared.terms.Side.TheVariants.{Name, Variable}
 use Rattle.gr_feats.specs.Grammars.{Written, a_name, a_variable, WrittenPair, with_args, term_text, bag_text, closed_literals_text}
@@ -72,20 +74,22 @@ pub record ReadsOn {W Y : Type 0} (g : Grammar Class) (f : (ts rest : List Lexem
   pub rounds : Rounds flat g ts now
   pub reads : (ws : List W) (later : List (List ℕ)) → Grows new later → R later ws x → R later (ws ++ round_items f rounds) y
   pub passes : Passes old new ts now x.1 y.1
+  pub puts : PutsNames (star g) old new ts now
 
 module _ {W Y : Type 0} (g : Grammar Class) (f : (ts rest : List Lexeme) → Matches flat g ts rest → W) (R : List (List ℕ) → List W → Y × Numbering → Type 0) where
   pub ReadsOn-start : (ts : List Lexeme) (old : List (List ℕ)) (x : Y × Numbering) → ReadsOn g f R ts old x ts old x
-  ReadsOn-start ts old x = record { rounds = start; reads = λ ws later grows h. subst (λ z. R later z x) (sym (append-nil ws)) h; passes = stay }
+  ReadsOn-start ts old x = record { rounds = start; reads = λ ws later grows h. subst (λ z. R later z x) (sym (append-nil ws)) h; passes = stay; puts = puts_start }
 
   pub ReadsOn-more : (ts : List Lexeme) (old : List (List ℕ)) (x : Y × Numbering) (now : List Lexeme) (new : List (List ℕ)) (y : Y × Numbering) (rest : List Lexeme) (next : List (List ℕ)) (z : Y × Numbering)
-      → ReadsOn g f R ts old x now new y → begins flat g now ≡ true → (r : Runs flat g now (took rest)) → Passes new next now rest y.1 z.1
+      → ReadsOn g f R ts old x now new y → begins flat g now ≡ true → (r : Runs flat g now (took rest)) → Passes new next now rest y.1 z.1 → PutsNames g new next now rest
       → ((ws : List W) (later : List (List ℕ)) → Grows next later → R later ws y → R later (ws ++ f now rest (tree_of r) ∷ []) z)
       → ReadsOn g f R ts old x rest next z
-  ReadsOn-more ts old x now new y rest next z on b r passes step = record {
+  ReadsOn-more ts old x now new y rest next z on b r passes puts step = record {
     rounds = round on.rounds b r;
     reads = λ ws later grows h. subst (λ v. R later v z) (append_assoc ws (round_items f on.rounds) (f now rest (tree_of r) ∷ []))
         (step (ws ++ round_items f on.rounds) later grows (on.reads ws later (Grows-trans new next later passes.texts.grows grows) h));
     passes = pass_then on.passes passes;
+    puts = puts_more on.puts puts;
   }
 
   pub ReadsOn-end : (ts : List Lexeme) (old : List (List ℕ)) (x : Y × Numbering) (now : List Lexeme) (new : List (List ℕ)) (y : Y × Numbering)

@@ -21,7 +21,7 @@ use Rattle.gr_feats.specs.Grammars.{Written, a_name, a_variable, WrittenPair, Wr
 use Rattle.gr_feats.proofs.ReadingLemmas.{shorter_text}
 use Rattle.gr_feats.specs.Numberings.{Numbering}
 use Rattle.gr_feats.specs.Readings.{IsTerm, InTurn, IsPair, IsAgain, IsBag, IsHandle, IsLiteral, AreLiterals}
-use Rattle.gr_feats.specs.Answers.{IsBagAnswer, IsLiteralsAnswer}
+use Rattle.gr_feats.specs.Answers.{IsBagReading, IsLiteralsReading}
 
 -- a row stays right where each of it does
 pub row_stays : {W X : Type 0} (R S : Numbering → W → X → Numbering → Type 0) → ((before : Numbering) (w : W) (x : X) (after : Numbering) → R before w x after → S before w x after)
@@ -60,16 +60,16 @@ module _ (texts later : List (List ℕ)) (grows : Grows texts later) where
   pub literals_stay : (before : Numbering) (ws : List WrittenLiteral) (xs : List Literal) (after : Numbering) → AreLiterals texts before ws xs after → AreLiterals later before ws xs after
   literals_stay before ws xs after h = row_stays (IsLiteral texts) (IsLiteral later) literal_stays before ws xs after h
 
-  pub bag_answer_stays : (bytes : List ℕ) (tokens : List Token) (at : ℕ) (before after : Numbering) (x : Result (Bag × ℕ × Option Place) ReadRefusal) → IsBagAnswer bytes tokens at texts before after x → IsBagAnswer bytes tokens at later before after x
-  bag_answer_stays bytes tokens at before after (Ok x) h =
+  pub bag_reading_stays : (bytes : List ℕ) (tokens : List Token) (at : ℕ) (before after : Numbering) (x : Result (Bag × ℕ × Option Place) ReadRefusal) → IsBagReading bytes tokens at texts before after x → IsBagReading bytes tokens at later before after x
+  bag_reading_stays bytes tokens at before after (Ok x) h =
       record { pairs = h.pairs; passed = h.passed; again = h.again; front = h.front; read = bag_stays before h.pairs (record { bag = x.0; again = h.again }) after h.read; next = h.next; second = h.second }
-  bag_answer_stays bytes tokens at before after (Err r) h = h
+  bag_reading_stays bytes tokens at before after (Err r) h = h
 
-  pub literals_answer_stays : (bytes : List ℕ) (tokens : List Token) (at : ℕ) (before after : Numbering) (x : Result (List Literal × ℕ) ReadRefusal)
-      → IsLiteralsAnswer bytes tokens at texts before after x → IsLiteralsAnswer bytes tokens at later before after x
-  literals_answer_stays bytes tokens at before after (Ok x) h =
+  pub literals_reading_stays : (bytes : List ℕ) (tokens : List Token) (at : ℕ) (before after : Numbering) (x : Result (List Literal × ℕ) ReadRefusal)
+      → IsLiteralsReading bytes tokens at texts before after x → IsLiteralsReading bytes tokens at later before after x
+  literals_reading_stays bytes tokens at before after (Ok x) h =
       record { literals = h.literals; passed = h.passed; front = h.front; read = literals_stay before h.literals x.0 after h.read; closing = h.closing }
-  literals_answer_stays bytes tokens at before after (Err r) h = h
+  literals_reading_stays bytes tokens at before after (Err r) h = h
 
 -- the attribute of a pair stands in the text
 abbrev IsInside : List Lexeme → List Lexeme → WrittenPair → Type 0

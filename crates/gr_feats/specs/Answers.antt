@@ -7,13 +7,14 @@ use Rattle.gr_tokens.specs.declared.Token.{Token}
 use Rattle.gr_tokens.specs.declared.ReadRefusal.{ReadRefusal}
 use Rattle.gr_tokens.specs.declared.ReadRefusal.TheVariants.{Syntax, Memory}
 use Rattle.gr_grammar.specs.Grammars.{Grammar}
-use Rattle.gr_reader.specs.Lexemes.{lexemes}
+use Rattle.gr_reader.specs.Lexemes.{Lexeme, lexemes}
 use Rattle.gr_reader.specs.Classes.{Class, flat}
 use Rattle.gr_reader.specs.Fronts.{IsFront, IsNoFront}
 use Rattle.gr_reader.specs.Places.{place_of_token}
 use Rattle.gr_feats.specs.Grammars.{WrittenPair, WrittenLiteral, bag_text, bag_of, closed_literals_text, closed_literals_of}
 use Rattle.gr_feats.specs.Numberings.{Numbering}
 use Rattle.gr_feats.specs.Readings.{IsBag, AreLiterals}
+use Rattle.gr_feats.specs.Tables.{PutsNames}
 
 -- the place where so many lexemes are left
 abbrev pub place_of_left : List ℕ → List Token → Option ℕ → Option Place
@@ -48,11 +49,24 @@ IsRefusedAt g bytes tokens at (Syntax place) = IsNoTextAt g bytes tokens at plac
 IsRefusedAt g bytes tokens at Memory = ⊤
 IsRefusedAt g bytes tokens at _ = ⊥
 
--- the answers that are right, by the texts' numbers behind the reading and the numberings before and behind it
-abbrev pub IsBagAnswer : List ℕ → List Token → ℕ → List (List ℕ) → Numbering → Numbering → Result (Bag × ℕ × Option Place) ReadRefusal → Type 0
-IsBagAnswer bytes tokens at texts before after (Ok answer) = IsBagAt bytes tokens at texts before after answer
-IsBagAnswer bytes tokens at texts before after (Err refusal) = IsRefusedAt bag_text bytes tokens at refusal
+-- the answers that are right by one table of texts, and by the numberings before and behind the reading
+abbrev pub IsBagReading : List ℕ → List Token → ℕ → List (List ℕ) → Numbering → Numbering → Result (Bag × ℕ × Option Place) ReadRefusal → Type 0
+IsBagReading bytes tokens at texts before after (Ok answer) = IsBagAt bytes tokens at texts before after answer
+IsBagReading bytes tokens at texts before after (Err refusal) = IsRefusedAt bag_text bytes tokens at refusal
 
-abbrev pub IsLiteralsAnswer : List ℕ → List Token → ℕ → List (List ℕ) → Numbering → Numbering → Result (List Literal × ℕ) ReadRefusal → Type 0
-IsLiteralsAnswer bytes tokens at texts before after (Ok answer) = AreLiteralsAt bytes tokens at texts before after answer
-IsLiteralsAnswer bytes tokens at texts before after (Err refusal) = IsRefusedAt closed_literals_text bytes tokens at refusal
+abbrev pub IsLiteralsReading : List ℕ → List Token → ℕ → List (List ℕ) → Numbering → Numbering → Result (List Literal × ℕ) ReadRefusal → Type 0
+IsLiteralsReading bytes tokens at texts before after (Ok answer) = AreLiteralsAt bytes tokens at texts before after answer
+IsLiteralsReading bytes tokens at texts before after (Err refusal) = IsRefusedAt closed_literals_text bytes tokens at refusal
+
+-- the new table is the old one with the names and variables of the text of the grammar that begins at the token
+abbrev pub IsTableAt : Grammar Class → List ℕ → List Token → ℕ → List (List ℕ) → List (List ℕ) → Type 0
+IsTableAt g bytes tokens at old new = (rest : List Lexeme) × PutsNames g old new (lexemes bytes (drop at tokens)) rest
+
+-- the answers that are right by the tables before and behind the reading: the answer is right by the new table, and that is the one behind the text. A refusal says nothing of the tables
+abbrev pub IsBagAnswer : List ℕ → List Token → ℕ → List (List ℕ) → List (List ℕ) → Numbering → Numbering → Result (Bag × ℕ × Option Place) ReadRefusal → Type 0
+IsBagAnswer bytes tokens at old new before after (Ok answer) = IsBagAt bytes tokens at new before after answer × IsTableAt bag_text bytes tokens at old new
+IsBagAnswer bytes tokens at old new before after (Err refusal) = IsRefusedAt bag_text bytes tokens at refusal
+
+abbrev pub IsLiteralsAnswer : List ℕ → List Token → ℕ → List (List ℕ) → List (List ℕ) → Numbering → Numbering → Result (List Literal × ℕ) ReadRefusal → Type 0
+IsLiteralsAnswer bytes tokens at old new before after (Ok answer) = AreLiteralsAt bytes tokens at new before after answer × IsTableAt closed_literals_text bytes tokens at old new
+IsLiteralsAnswer bytes tokens at old new before after (Err refusal) = IsRefusedAt closed_literals_text bytes tokens at refusal

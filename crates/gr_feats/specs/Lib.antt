@@ -4,5 +4,6 @@ pub mod Numberings
 pub mod Grammars
 pub mod Readings
 pub mod Passing
+pub mod Tables
 pub mod Sides
 pub mod Answers

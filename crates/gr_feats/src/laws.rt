@@ -20,7 +20,7 @@ ghost use Rattle.gr_feats.specs.Grammars.{WrittenLiteral, WrittenPair, bag_of, b
 ghost use Rattle.gr_feats.specs.Loading.{counted_from};
 ghost use Rattle.gr_feats.specs.Numberings.{GoesOnFrom, IsNumbering, Numbering, none_met};
 ghost use Rattle.gr_feats.specs.Readings.{AreLiterals, AreMade, IsBag};
-ghost use Rattle.gr_feats.specs.Answers.{IsBagAnswer, IsLiteralsAnswer};
+ghost use Rattle.gr_feats.specs.Answers.{IsBagAnswer, IsBagReading, IsLiteralsAnswer, IsLiteralsReading};
 ghost use Rattle.gr_feats.specs.declared.gathered.Gathered.{Gathered};
 
 /// A slot has one canonical bag.
@@ -29,31 +29,64 @@ pub fn one_canonical_bag()
         → IsCanonicalBag N slot bag → IsCanonicalBag N slot other → bag ≡ other }
 {}
 
-/// One answer besides want of memory is right for the bag that begins at a token, by the same
-/// table of texts, and one numbering where there is a bag.
+/// Behind one table of texts, one answer besides want of memory is right for the bag that begins at
+/// a token, and one numbering and one new table where there is a bag.
 pub fn one_bag_answer()
-    ensures answer { (bytes : List ℕ) (tokens : List Token) (at : ℕ) (texts : List (List ℕ)) → NoneTwice texts
+    ensures answer { (bytes : List ℕ) (tokens : List Token) (at : ℕ) (old : List (List ℕ)) → NoneTwice old
         → (before : Numbering) → IsNumbering before
-        → (m n : Numbering) (x y : Result (Bag × ℕ × Option Place) ReadRefusal)
+        → (new later : List (List ℕ)) (m n : Numbering) (x y : Result (Bag × ℕ × Option Place) ReadRefusal)
         → (x ≡ Err Memory → ⊥) → (y ≡ Err Memory → ⊥)
-        → IsBagAnswer bytes tokens at texts before m x → IsBagAnswer bytes tokens at texts before n y → x ≡ y }
-    ensures numbering { (bytes : List ℕ) (tokens : List Token) (at : ℕ) (texts : List (List ℕ)) → NoneTwice texts
+        → IsBagAnswer bytes tokens at old new before m x → IsBagAnswer bytes tokens at old later before n y → x ≡ y }
+    ensures numbering { (bytes : List ℕ) (tokens : List Token) (at : ℕ) (old : List (List ℕ)) → NoneTwice old
         → (before : Numbering) → IsNumbering before
-        → (m n : Numbering) (x y : Bag × ℕ × Option Place)
-        → IsBagAnswer bytes tokens at texts before m (Ok x) → IsBagAnswer bytes tokens at texts before n (Ok y) → m ≡ n }
+        → (new later : List (List ℕ)) (m n : Numbering) (x y : Bag × ℕ × Option Place)
+        → IsBagAnswer bytes tokens at old new before m (Ok x) → IsBagAnswer bytes tokens at old later before n (Ok y) → m ≡ n }
+    ensures table { (bytes : List ℕ) (tokens : List Token) (at : ℕ) (old new later : List (List ℕ))
+        → (before m n : Numbering) (x y : Bag × ℕ × Option Place)
+        → IsBagAnswer bytes tokens at old new before m (Ok x) → IsBagAnswer bytes tokens at old later before n (Ok y) → new ≡ later }
 {}
 
 /// The same for the literals that begin at a token.
 pub fn one_literals_answer()
+    ensures answer { (bytes : List ℕ) (tokens : List Token) (at : ℕ) (old : List (List ℕ)) → NoneTwice old
+        → (before : Numbering) → IsNumbering before
+        → (new later : List (List ℕ)) (m n : Numbering) (x y : Result (List Literal × ℕ) ReadRefusal)
+        → (x ≡ Err Memory → ⊥) → (y ≡ Err Memory → ⊥)
+        → IsLiteralsAnswer bytes tokens at old new before m x → IsLiteralsAnswer bytes tokens at old later before n y → x ≡ y }
+    ensures numbering { (bytes : List ℕ) (tokens : List Token) (at : ℕ) (old : List (List ℕ)) → NoneTwice old
+        → (before : Numbering) → IsNumbering before
+        → (new later : List (List ℕ)) (m n : Numbering) (x y : List Literal × ℕ)
+        → IsLiteralsAnswer bytes tokens at old new before m (Ok x) → IsLiteralsAnswer bytes tokens at old later before n (Ok y) → m ≡ n }
+    ensures table { (bytes : List ℕ) (tokens : List Token) (at : ℕ) (old new later : List (List ℕ))
+        → (before m n : Numbering) (x y : List Literal × ℕ)
+        → IsLiteralsAnswer bytes tokens at old new before m (Ok x) → IsLiteralsAnswer bytes tokens at old later before n (Ok y) → new ≡ later }
+{}
+
+/// By one table of texts, one answer besides want of memory is right for the bag that begins at a
+/// token, and one numbering where there is a bag.
+pub fn one_bag_reading()
+    ensures answer { (bytes : List ℕ) (tokens : List Token) (at : ℕ) (texts : List (List ℕ)) → NoneTwice texts
+        → (before : Numbering) → IsNumbering before
+        → (m n : Numbering) (x y : Result (Bag × ℕ × Option Place) ReadRefusal)
+        → (x ≡ Err Memory → ⊥) → (y ≡ Err Memory → ⊥)
+        → IsBagReading bytes tokens at texts before m x → IsBagReading bytes tokens at texts before n y → x ≡ y }
+    ensures numbering { (bytes : List ℕ) (tokens : List Token) (at : ℕ) (texts : List (List ℕ)) → NoneTwice texts
+        → (before : Numbering) → IsNumbering before
+        → (m n : Numbering) (x y : Bag × ℕ × Option Place)
+        → IsBagReading bytes tokens at texts before m (Ok x) → IsBagReading bytes tokens at texts before n (Ok y) → m ≡ n }
+{}
+
+/// The same for the literals that begin at a token.
+pub fn one_literals_reading()
     ensures answer { (bytes : List ℕ) (tokens : List Token) (at : ℕ) (texts : List (List ℕ)) → NoneTwice texts
         → (before : Numbering) → IsNumbering before
         → (m n : Numbering) (x y : Result (List Literal × ℕ) ReadRefusal)
         → (x ≡ Err Memory → ⊥) → (y ≡ Err Memory → ⊥)
-        → IsLiteralsAnswer bytes tokens at texts before m x → IsLiteralsAnswer bytes tokens at texts before n y → x ≡ y }
+        → IsLiteralsReading bytes tokens at texts before m x → IsLiteralsReading bytes tokens at texts before n y → x ≡ y }
     ensures numbering { (bytes : List ℕ) (tokens : List Token) (at : ℕ) (texts : List (List ℕ)) → NoneTwice texts
         → (before : Numbering) → IsNumbering before
         → (m n : Numbering) (x y : List Literal × ℕ)
-        → IsLiteralsAnswer bytes tokens at texts before m (Ok x) → IsLiteralsAnswer bytes tokens at texts before n (Ok y) → m ≡ n }
+        → IsLiteralsReading bytes tokens at texts before m (Ok x) → IsLiteralsReading bytes tokens at texts before n (Ok y) → m ≡ n }
 {}
 
 /// What was right stays right as the table of texts grows.
@@ -61,11 +94,11 @@ pub fn answers_stay()
     ensures bag { (texts later : List (List ℕ)) → Grows texts later
         → (bytes : List ℕ) (tokens : List Token) (at : ℕ) (before after : Numbering)
         → (x : Result (Bag × ℕ × Option Place) ReadRefusal)
-        → IsBagAnswer bytes tokens at texts before after x → IsBagAnswer bytes tokens at later before after x }
+        → IsBagReading bytes tokens at texts before after x → IsBagReading bytes tokens at later before after x }
     ensures literals { (texts later : List (List ℕ)) → Grows texts later
         → (bytes : List ℕ) (tokens : List Token) (at : ℕ) (before after : Numbering)
         → (x : Result (List Literal × ℕ) ReadRefusal)
-        → IsLiteralsAnswer bytes tokens at texts before after x → IsLiteralsAnswer bytes tokens at later before after x }
+        → IsLiteralsReading bytes tokens at texts before after x → IsLiteralsReading bytes tokens at later before after x }
 {}
 
 /// The variables of a bag and of literals that were read have numbers that were given, so a store

@@ -1,5 +1,5 @@
 //! Reads literals.
-ghost use Rattle.std.specs.Prelude.{◌≡◌, ◌||◌, IfOk};
+ghost use Rattle.std.specs.Prelude.{◌≡◌, ◌||◌, IfOk, OnOk};
 ghost use Rattle.gr_grammar.specs.Grammars.{alt, nil};
 ghost use Rattle.gr_reader.specs.Classes.{class_of, flat, sees, any_name, variable};
 ghost use Rattle.gr_reader.specs.Parts.{Reads};
@@ -8,6 +8,7 @@ ghost use Rattle.gr_feats.specs.Numberings.{GoesOnFrom};
 ghost use Rattle.gr_feats.specs.Passing.{Later, Passes, PassesTexts};
 ghost use Rattle.gr_feats.specs.Readings.{InTurn, IsTerm, IsLiteral, AreLiterals};
 ghost use Rattle.gr_feats.specs.Sides.{IsSide, IsPerhapsSide, IsHead};
+ghost use Rattle.gr_feats.specs.Tables.{PutsNames};
 
 use crate::names::Names;
 use crate::terms::{Side, numbered, read_side, term};
@@ -36,6 +37,7 @@ fn sees_or_term(reader: &Reader<'_>, class: Class<'_>) -> bool
 fn next_arg(reader: &mut Reader<'_>, symbols: &mut Symbols, names: &mut Names) -> Result<Term, Stop>
     ensures reads { Reads flat next_arg_text (λ ts rest m x. Later symbols.new (λ texts. IsTerm texts names.old (next_arg_of m) x names.new)) reader.old reader.new result }
     ensures passes { Passes symbols.old symbols.new reader.old reader.new names.old names.new }
+    ensures table { OnOk result (PutsNames next_arg_text symbols.old symbols.new reader.old reader.new) }
 {
     let _comma = reader.skip(Class::Sign(","));
     let next = term(reader, symbols, names)?;
@@ -51,6 +53,7 @@ fn args(
 ) -> Result<Terms, Stop>
     ensures reads { Reads flat args_text (λ ts rest m x. Later symbols.new (λ texts. InTurn (IsTerm texts) names.old (args_of m) x names.new)) reader.old reader.new result }
     ensures passes { Passes symbols.old symbols.new reader.old reader.new names.old names.new }
+    ensures table { OnOk result (PutsNames args_text symbols.old symbols.new reader.old reader.new) }
 {
     let mut row = Items::new(alloc);
     let first = term(reader, symbols, names)?;
@@ -71,6 +74,7 @@ fn perhaps_args(
 ) -> Result<Terms, Stop>
     ensures reads { Reads flat (alt args_text nil) (λ ts rest m x. Later symbols.new (λ texts. InTurn (IsTerm texts) names.old (perhaps_args_of m) x names.new)) reader.old reader.new result }
     ensures passes { Passes symbols.old symbols.new reader.old reader.new names.old names.new }
+    ensures table { OnOk result (PutsNames (alt args_text nil) symbols.old symbols.new reader.old reader.new) }
 {
     if sees_term(reader) {
         let inner = args(alloc, reader, symbols, names)?;
@@ -84,6 +88,7 @@ fn perhaps_args(
 fn behind_colon(reader: &mut Reader<'_>, symbols: &mut Symbols) -> Result<Side, Stop>
     ensures reads { Reads flat colon_text (λ ts rest m x. Later symbols.new (λ texts. IsSide texts (behind_colon_of m) x)) reader.old reader.new result }
     ensures passes { PassesTexts symbols.old symbols.new reader.old reader.new }
+    ensures table { OnOk result (PutsNames colon_text symbols.old symbols.new reader.old reader.new) }
 {
     let _colon = reader.take(Class::Sign(":"))?;
     let pred = read_side(reader, symbols)?;
@@ -94,6 +99,7 @@ fn behind_colon(reader: &mut Reader<'_>, symbols: &mut Symbols) -> Result<Side, 
 fn second(reader: &mut Reader<'_>, symbols: &mut Symbols) -> Result<Option<Side>, Stop>
     ensures reads { Reads flat (alt colon_text nil) (λ ts rest m x. Later symbols.new (λ texts. IsPerhapsSide texts (second_of m) x)) reader.old reader.new result }
     ensures passes { PassesTexts symbols.old symbols.new reader.old reader.new }
+    ensures table { OnOk result (PutsNames (alt colon_text nil) symbols.old symbols.new reader.old reader.new) }
 {
     if reader.sees(Class::Sign(":")) {
         let pred = behind_colon(reader, symbols)?;
@@ -132,6 +138,7 @@ fn literal(
 ) -> Result<Literal, Stop>
     ensures reads { Reads flat literal_text (λ ts rest m x. Later symbols.new (λ texts. IsLiteral texts names.old (literal_of m) x names.new)) reader.old reader.new result }
     ensures passes { Passes symbols.old symbols.new reader.old reader.new names.old names.new }
+    ensures table { OnOk result (PutsNames literal_text symbols.old symbols.new reader.old reader.new) }
 {
     let first = read_side(reader, symbols)?;
     let second = second(reader, symbols)?;
@@ -155,6 +162,7 @@ fn next_literal(
 ) -> Result<Literal, Stop>
     ensures reads { Reads flat next_literal_text (λ ts rest m x. Later symbols.new (λ texts. IsLiteral texts names.old (next_literal_of m) x names.new)) reader.old reader.new result }
     ensures passes { Passes symbols.old symbols.new reader.old reader.new names.old names.new }
+    ensures table { OnOk result (PutsNames next_literal_text symbols.old symbols.new reader.old reader.new) }
 {
     let _semicolon = reader.skip(Class::Sign(";"));
     let next = literal(alloc, reader, symbols, names)?;
@@ -170,6 +178,7 @@ fn row(
 ) -> Result<Literals, Stop>
     ensures reads { Reads flat row_text (λ ts rest m x. Later symbols.new (λ texts. AreLiterals texts names.old (row_of m) x names.new)) reader.old reader.new result }
     ensures passes { Passes symbols.old symbols.new reader.old reader.new names.old names.new }
+    ensures table { OnOk result (PutsNames row_text symbols.old symbols.new reader.old reader.new) }
 {
     let mut row = Items::new(alloc);
     let first = literal(alloc, reader, symbols, names)?;
@@ -190,6 +199,7 @@ pub fn literals(
 ) -> Result<Literals, Stop>
     ensures reads { Reads flat literals_text (λ ts rest m x. Later symbols.new (λ texts. AreLiterals texts names.old (literals_of m) x names.new)) reader.old reader.new result }
     ensures passes { Passes symbols.old symbols.new reader.old reader.new names.old names.new }
+    ensures table { OnOk result (PutsNames literals_text symbols.old symbols.new reader.old reader.new) }
 {
     if sees_term(reader) {
         let inner = row(alloc, reader, symbols, names)?;
@@ -208,6 +218,7 @@ pub fn closed_literals(
 ) -> Result<Literals, Stop>
     ensures reads { Reads flat closed_literals_text (λ ts rest m x. Later symbols.new (λ texts. AreLiterals texts names.old (closed_literals_of m) x names.new)) reader.old reader.new result }
     ensures passes { Passes symbols.old symbols.new reader.old reader.new names.old names.new }
+    ensures table { OnOk result (PutsNames closed_literals_text symbols.old symbols.new reader.old reader.new) }
 {
     let inner = literals(alloc, reader, symbols, names)?;
     let _close = reader.take(Class::Sign("}"))?;

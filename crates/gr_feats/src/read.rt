@@ -49,8 +49,9 @@ fn refusal(bytes: &[u8], tokens: &[Token], number: usize, stop: Stop) -> ReadRef
 /// which no bag goes on, or at the end of the bytes. Any other refusal is `Memory`, also for more
 /// texts or more variables than have numbers.
 ///
-/// Texts and variables keep their numbers. At most as many texts are new as tokens were passed, and
-/// after a refusal at most as many as there are from `at` on.
+/// Texts and variables keep their numbers. Behind an answer the table has the names and variables
+/// that were passed, which were taken in their order, and nothing more. After a refusal at most as
+/// many texts are new as there are tokens from `at` on.
 pub fn read_bag(
     alloc: Global,
     bytes: &[u8],
@@ -62,7 +63,7 @@ pub fn read_bag(
     requires bytes { length bytes.now ≤ 1048576 }
     requires tokens { AreTokens bytes.now tokens.now }
     requires at { at ≤ length tokens.now }
-    ensures answer { IsBagAnswer bytes.now tokens.now at symbols.new names.old names.new result }
+    ensures answer { IsBagAnswer bytes.now tokens.now at symbols.old symbols.new names.old names.new result }
     ensures grows { Grows symbols.old symbols.new }
     ensures goes_on { GoesOnFrom names.old names.new }
     ensures few { length symbols.new + at ≤ length symbols.old + length tokens.now }
@@ -91,8 +92,9 @@ pub fn read_bag(
 /// is `Syntax` at the first token after which no such text goes on, or at the end of the bytes. Any
 /// other refusal is `Memory`, also for more texts or more variables than have numbers.
 ///
-/// Texts and variables keep their numbers. At most as many texts are new as tokens were passed, and
-/// after a refusal at most as many as there are from `at` on.
+/// Texts and variables keep their numbers. Behind an answer the table has the names and variables
+/// that were passed, which were taken in their order, and nothing more. After a refusal at most as
+/// many texts are new as there are tokens from `at` on.
 pub fn read_literals(
     alloc: Global,
     bytes: &[u8],
@@ -104,7 +106,7 @@ pub fn read_literals(
     requires bytes { length bytes.now ≤ 1048576 }
     requires tokens { AreTokens bytes.now tokens.now }
     requires at { at ≤ length tokens.now }
-    ensures answer { IsLiteralsAnswer bytes.now tokens.now at symbols.new names.old names.new result }
+    ensures answer { IsLiteralsAnswer bytes.now tokens.now at symbols.old symbols.new names.old names.new result }
     ensures grows { Grows symbols.old symbols.new }
     ensures goes_on { GoesOnFrom names.old names.new }
     ensures few { length symbols.new + at ≤ length symbols.old + length tokens.now }

@@ -9,6 +9,7 @@ use Rattle.gr_reader.proofs.Steps.{first_stops, then_stops, row_stops, memory_st
 use Rattle.gr_feats.specs.Grammars.{next_pair_text, next_pair_of, pair_of}
 use Rattle.gr_feats.specs.Readings.{IsBag}
 use Rattle.gr_feats.proofs.ReadingLemmas.{begins_token, shorter, ReadsOn-start, ReadsOn-more, ReadsOn-end, IsBag-more, IsBag-none}
+use Rattle.gr_feats.proofs.TableLemmas.{puts_both}
 use Rattle.gr_feats.proofs.bags.pairs.Goals as goal
 
 pub returns-in_err-first-clause-reads : goal.returns-in_err-first-clause-reads
@@ -42,7 +43,7 @@ pub row-preserved : goal.row-preserved
 row-preserved c =
     let b : begins flat next_pair_text c.row.reader ≡ true = begins_token (sign (codes ",")) c.row.reader c.sees.ensures c.row-test.true in
     ReadsOn-more next_pair_text (λ ts rest m. next_pair_of m) (λ texts ws x. IsBag texts c.args.names.now ws x.0 x.1) _ _ _ _ _ _ _ _ _
-    c.row.invariant b c.in_ok-next.ensures.reads.0 c.in_ok-next.ensures.passes
+    c.row.invariant b c.in_ok-next.ensures.reads.0 c.in_ok-next.ensures.passes c.in_ok-next.ensures.table
     (λ ws later grows h. IsBag-more later _ _ _ ws _ _ _ _ h (c.in_ok-next.ensures.reads.1 later grows) c.in_ok-_next.ensures.ok)
 
 pub returns-clause-reads : goal.returns-clause-reads
@@ -54,3 +55,6 @@ returns-clause-reads c =
           (IsBag-more later _ _ _ [] w _ c.new-gathered.result _ (IsBag-none later c.args.names.now c.new-gathered.result c.new-gathered.ensures)
           (c.in_ok-first.ensures.reads.1 later (Grows-trans _ _ later c.row.invariant.passes.texts.grows grows)) c.in_ok-_first.ensures.ok),
     )
+
+pub returns-clause-table : goal.returns-clause-table
+returns-clause-table c = puts_both c.in_ok-first.ensures.table c.row.invariant.puts

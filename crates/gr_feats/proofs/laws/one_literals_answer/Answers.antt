@@ -1,8 +1,9 @@
-use Rattle.gr_feats.proofs.OneAnswer.{one_literals_answer, one_literals_at}
+use Rattle.gr_feats.proofs.OneTable.{one_literals_answer, one_literals_behind, one_literals_table}
 use Rattle.gr_feats.proofs.laws.one_literals_answer.Goals as goal
 
 pub returns : goal.returns
 returns c = record {
-  answer = λ bytes tokens at texts once before is m n x y p q h k. one_literals_answer bytes tokens at texts once before is m n x y p q h k;
-  numbering = λ bytes tokens at texts once before is m n x y h k. (one_literals_at bytes tokens at texts once before is m n x y h k).1;
+  answer = λ bytes tokens at old once before is new later m n x y p q h k. one_literals_answer bytes tokens at old once before is new later m n x y p q h k;
+  numbering = λ bytes tokens at old once before is new later m n x y h k. (one_literals_behind bytes tokens at old once before is new later m n x y h k).1;
+  table = λ bytes tokens at old new later before m n x y h k. one_literals_table bytes tokens at old new later h.1 k.1;
 }

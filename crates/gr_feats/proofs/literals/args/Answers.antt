@@ -9,6 +9,7 @@ use Rattle.gr_reader.proofs.Steps.{first_stops, then_stops, row_stops, memory_st
 use Rattle.gr_feats.specs.Grammars.{next_arg_text, next_arg_of, term_of}
 use Rattle.gr_feats.specs.Readings.{InTurn, IsTerm}
 use Rattle.gr_feats.proofs.ReadingLemmas.{begins_next, shorter, ReadsOn-start, ReadsOn-more, ReadsOn-end, InTurn-one, InTurn-more}
+use Rattle.gr_feats.proofs.TableLemmas.{puts_both}
 use Rattle.gr_feats.proofs.literals.args.Goals as goal
 
 pub returns-in_err-first-clause-reads : goal.returns-in_err-first-clause-reads
@@ -42,7 +43,7 @@ pub row-preserved : goal.row-preserved
 row-preserved c =
     let b : begins flat next_arg_text c.row.reader ≡ true = begins_next (sign (codes ",")) c.row.reader c.sees_or_term.ensures c.row-test.true in
     ReadsOn-more next_arg_text (λ ts rest m. next_arg_of m) (λ texts ws x. InTurn (IsTerm texts) c.args.names.now ws x.0 x.1) _ _ _ _ _ _ _ _ _
-    c.row.invariant b c.in_ok-next.ensures.reads.0 c.in_ok-next.ensures.passes
+    c.row.invariant b c.in_ok-next.ensures.reads.0 c.in_ok-next.ensures.passes c.in_ok-next.ensures.table
     (λ ws later grows h. InTurn-more (IsTerm later) _ _ _ ws _ _ _ _ h (c.in_ok-next.ensures.reads.1 later grows) c.in_ok-_next.ensures.ok)
 
 pub returns-clause-reads : goal.returns-clause-reads
@@ -53,3 +54,6 @@ returns-clause-reads c =
       λ later grows. ReadsOn-end next_arg_text (λ ts rest m. next_arg_of m) (λ texts ws x. InTurn (IsTerm texts) c.args.names.now ws x.0 x.1) _ _ _ _ _ _ c.row.invariant b w later grows
           (InTurn-one (IsTerm later) _ _ w _ _ c.new-row.ensures (c.in_ok-first.ensures.reads.1 later (Grows-trans _ _ later c.row.invariant.passes.texts.grows grows)) _ c.in_ok-_first.ensures.ok),
     )
+
+pub returns-clause-table : goal.returns-clause-table
+returns-clause-table c = puts_both c.in_ok-first.ensures.table c.row.invariant.puts

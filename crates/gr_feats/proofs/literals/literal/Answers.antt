@@ -4,6 +4,7 @@ use Rattle.gr_grammar.specs.Grammars.{run_both}
 use Rattle.gr_reader.specs.declared.reader.Stop.TheVariants.{Memory as NoMemory}
 use Rattle.gr_reader.proofs.Steps.{first_stops, then_stops, token_run, token_stops, memory_stops}
 use Rattle.gr_feats.proofs.ReadingLemmas.{literal_read}
+use Rattle.gr_feats.proofs.TableLemmas.{puts_both, puts_closed}
 use Rattle.gr_feats.proofs.literals.literal.Goals as goal
 
 pub returns-in_err-first-clause-reads : goal.returns-in_err-first-clause-reads
@@ -45,3 +46,6 @@ returns-clause-reads c = (
       let behind_first = Grows-trans _ _ later c.in_ok-second.ensures.passes.grows behind_second in
       literal_read later _ _ _ _ _ _ _ _ _ _ (c.in_ok-first.ensures.reads.1 later behind_first) (c.in_ok-second.ensures.reads.1 later behind_second) c.in_ok-head.ensures.ok (c.in_ok-args.ensures.reads.1 later grows),
 )
+
+pub returns-clause-table : goal.returns-clause-table
+returns-clause-table c = puts_both c.in_ok-first.ensures.table (puts_both c.in_ok-second.ensures.table (puts_both (puts_closed refl c.in_ok-_open.ensures.took) (puts_both c.in_ok-args.ensures.table (puts_closed refl c.in_ok-_close.ensures.took))))

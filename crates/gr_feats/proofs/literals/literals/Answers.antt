@@ -5,6 +5,7 @@ use Rattle.gr_reader.proofs.Steps.{left_stops}
 use Rattle.gr_feats.specs.Grammars.{row_text}
 use Rattle.gr_feats.specs.Readings.{IsLiteral}
 use Rattle.gr_feats.proofs.ReadingLemmas.{begins_term, InTurn-none}
+use Rattle.gr_feats.proofs.TableLemmas.{puts_left, puts_nothing}
 use Rattle.gr_feats.proofs.literals.literals.Goals as goal
 
 pub returns-in_err-inner-clause-reads : goal.returns-in_err-inner-clause-reads
@@ -22,3 +23,9 @@ pub returns-else-sees_term-clause-reads : goal.returns-else-sees_term-clause-rea
 returns-else-sees_term-clause-reads c =
     let b : begins flat row_text c.args.reader.now ≡ false = begins_term c.args.reader.now c.sees_term.ensures c.if-sees_term.false in
     (run_right b take_nothing, λ later grows. InTurn-none (IsLiteral later) _ _ c.new.ensures)
+
+pub returns-in_ok-inner-clause-table : goal.returns-in_ok-inner-clause-table
+returns-in_ok-inner-clause-table c = puts_left c.in_ok-inner.ensures.table
+
+pub returns-else-sees_term-clause-table : goal.returns-else-sees_term-clause-table
+returns-else-sees_term-clause-table c = puts_nothing

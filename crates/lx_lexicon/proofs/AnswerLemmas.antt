@@ -16,6 +16,8 @@ use Rattle.gr_grammar.proofs.OneTree.{one_tree}
 use Rattle.gr_reader.specs.Classes.{flat}
 use Rattle.gr_reader.specs.Complaints.{all_noted, refusal_at}
 use Rattle.gr_reader.specs.Files.{IsFile, BreaksOff, IsComplaint}
+use Rattle.gr_reader.specs.Lexemes.{lexemes}
+use Rattle.gr_feats.specs.Tables.{PutsNames}
 use Rattle.gr_reader.specs.Places.{place_of_token}
 use Rattle.gr_reader.proofs.Files.{one_break, no_break}
 use Rattle.gr_reader.proofs.LexemeLemmas.{Lexeme-set}
@@ -25,7 +27,8 @@ use Rattle.lx_lexicon.specs.declared.entry.Entry.{Entry}
 use Rattle.lx_lexicon.specs.Grammars.{WrittenEntry, lexicon_text, lexicon_of}
 use Rattle.lx_lexicon.specs.Complaints.{lexicon_bad}
 use Rattle.lx_lexicon.specs.Entries.{IsCoName, IsEntry, AreEntries}
-use Rattle.lx_lexicon.specs.Answers.{IsTokensAnswer, IsRead, IsLexiconAnswer}
+use Rattle.gr_feats.proofs.TableLemmas.{one_table as one_table_of, puts_once}
+use Rattle.lx_lexicon.specs.Answers.{IsTokensAnswer, IsRead, HasTable, IsLexiconAnswer, IsLexiconReading}
 use Rattle.lx_lexicon.proofs.FileLemmas.{lexicon_is_clear}
 use Rattle.lx_lexicon.proofs.OneEntry.{one_lexicon}
 
@@ -83,29 +86,53 @@ abbrev refusal_or : ReadRefusal → Result (List Token) ReadRefusal → ReadRefu
 refusal_or r (Ok us) = r
 refusal_or r (Err s) = s
 
+pub one_cut : (bytes : List ℕ) (ts us : List Token) → AreTokens bytes ts → AreTokens bytes us → ts ≡ us
+one_cut bytes ts us h k = ap (tokens_or []) (same_answer bytes (Ok ts) (Ok us) h k)
+
 module _ (bytes : List ℕ) (texts : List (List ℕ)) (once : NoneTwice texts) where
   one_read : (x y : Result (List Entry) ReadRefusal) → (x ≡ Err refusal.Memory → ⊥) → (y ≡ Err refusal.Memory → ⊥) → IsRead bytes texts x → IsRead bytes texts y → x ≡ y
   one_read x y m n h k =
-      let e : h.tokens ≡ k.tokens = ap (tokens_or []) (same_answer bytes (Ok h.tokens) (Ok k.tokens) h.are k.are) in
+      let e : h.tokens ≡ k.tokens = one_cut bytes h.tokens k.tokens h.are k.are in
       one_tokens_answer bytes h.tokens texts once x y m n h.right (subst (λ ts. IsTokensAnswer bytes ts texts y) (sym e) k.right)
 
   uncut : (ts : List Token) (r : ReadRefusal) → AreTokens bytes ts → IsRefused bytes r → ⊥
   uncut ts r h k = let e = same_answer bytes (Ok ts) (Err r) h k in cc
 
-  pub one_answer : (x y : Result (List Entry) ReadRefusal) → (x ≡ Err refusal.Memory → ⊥) → (y ≡ Err refusal.Memory → ⊥) → IsLexiconAnswer bytes texts x → IsLexiconAnswer bytes texts y → x ≡ y
-  one_answer (Ok es) (Ok fs) m n h k = one_read (Ok es) (Ok fs) m n h k
-  one_answer (Ok es) (Err s) m n h (inl e) = absurd (n (ap Err e))
-  one_answer (Ok es) (Err s) m n h (inr (inl k)) = absurd (uncut h.tokens s h.are k)
-  one_answer (Ok es) (Err s) m n h (inr (inr k)) = one_read (Ok es) (Err s) m n h k
-  one_answer (Err r) (Ok fs) m n (inl e) k = absurd (m (ap Err e))
-  one_answer (Err r) (Ok fs) m n (inr (inl h)) k = absurd (uncut k.tokens r k.are h)
-  one_answer (Err r) (Ok fs) m n (inr (inr h)) k = one_read (Err r) (Ok fs) m n h k
-  one_answer (Err r) (Err s) m n (inl e) k = absurd (m (ap Err e))
-  one_answer (Err r) (Err s) m n (inr h) (inl e) = absurd (n (ap Err e))
-  one_answer (Err r) (Err s) m n (inr (inl h)) (inr (inl k)) = ap Err (ap (refusal_or r) (same_answer bytes (Err r) (Err s) h k))
-  one_answer (Err r) (Err s) m n (inr (inl h)) (inr (inr k)) = absurd (uncut k.tokens r k.are h)
-  one_answer (Err r) (Err s) m n (inr (inr h)) (inr (inl k)) = absurd (uncut h.tokens s h.are k)
-  one_answer (Err r) (Err s) m n (inr (inr h)) (inr (inr k)) = one_read (Err r) (Err s) m n h k
+  pub one_reading : (x y : Result (List Entry) ReadRefusal) → (x ≡ Err refusal.Memory → ⊥) → (y ≡ Err refusal.Memory → ⊥) → IsLexiconReading bytes texts x → IsLexiconReading bytes texts y → x ≡ y
+  one_reading (Ok es) (Ok fs) m n h k = one_read (Ok es) (Ok fs) m n h k
+  one_reading (Ok es) (Err s) m n h (inl e) = absurd (n (ap Err e))
+  one_reading (Ok es) (Err s) m n h (inr (inl k)) = absurd (uncut h.tokens s h.are k)
+  one_reading (Ok es) (Err s) m n h (inr (inr k)) = one_read (Ok es) (Err s) m n h k
+  one_reading (Err r) (Ok fs) m n (inl e) k = absurd (m (ap Err e))
+  one_reading (Err r) (Ok fs) m n (inr (inl h)) k = absurd (uncut k.tokens r k.are h)
+  one_reading (Err r) (Ok fs) m n (inr (inr h)) k = one_read (Err r) (Ok fs) m n h k
+  one_reading (Err r) (Err s) m n (inl e) k = absurd (m (ap Err e))
+  one_reading (Err r) (Err s) m n (inr h) (inl e) = absurd (n (ap Err e))
+  one_reading (Err r) (Err s) m n (inr (inl h)) (inr (inl k)) = ap Err (ap (refusal_or r) (same_answer bytes (Err r) (Err s) h k))
+  one_reading (Err r) (Err s) m n (inr (inl h)) (inr (inr k)) = absurd (uncut k.tokens r k.are h)
+  one_reading (Err r) (Err s) m n (inr (inr h)) (inr (inl k)) = absurd (uncut h.tokens s h.are k)
+  one_reading (Err r) (Err s) m n (inr (inr h)) (inr (inr k)) = one_read (Err r) (Err s) m n h k
+
+-- a refusal says nothing of the table
+module _ (texts later : List (List ℕ)) where
+  tokens_refusal_is : (bytes : List ℕ) (tokens : List Token) (r : ReadRefusal) → IsTokensAnswer bytes tokens texts (Err r) → IsTokensAnswer bytes tokens later (Err r)
+  tokens_refusal_is bytes tokens (refusal.Syntax p) h = h
+  tokens_refusal_is bytes tokens (refusal.NotUtf8 n) h = h
+  tokens_refusal_is bytes tokens (refusal.Duplicate p) h = h
+  tokens_refusal_is bytes tokens (refusal.TooManyClasses p) h = h
+  tokens_refusal_is bytes tokens (refusal.Version n) h = h
+  tokens_refusal_is bytes tokens (refusal.NotCanonical n) h = h
+  tokens_refusal_is bytes tokens (refusal.EmptyWord p) h = h
+  tokens_refusal_is bytes tokens (refusal.EntryLiterals p) h = h
+  tokens_refusal_is bytes tokens (refusal.Variable p) h = h
+  tokens_refusal_is bytes tokens (refusal.InputLiterals p) h = h
+  tokens_refusal_is bytes tokens (refusal.TooManyInputs p) h = h
+  tokens_refusal_is bytes tokens refusal.Memory h = h
+
+  pub refusal_is : (bytes : List ℕ) (r : ReadRefusal) → IsLexiconReading bytes texts (Err r) → IsLexiconReading bytes later (Err r)
+  refusal_is bytes r (inl e) = inl e
+  refusal_is bytes r (inr (inl h)) = inr (inl h)
+  refusal_is bytes r (inr (inr h)) = inr (inr (record { tokens = h.tokens; are = h.are; right = tokens_refusal_is bytes h.tokens r h.right }))
 
 module _ (texts later : List (List ℕ)) (grows : Grows texts later) where
   zip_stays : {W X : Type 0} (R S : W → X → Type 0) → ((w : W) (x : X) → R w x → S w x) → (ws : List W) (xs : List X) → AllZip R ws xs → AllZip S ws xs
@@ -131,24 +158,34 @@ module _ (texts later : List (List ℕ)) (grows : Grows texts later) where
 
   tokens_answer_stays : (bytes : List ℕ) (tokens : List Token) (x : Result (List Entry) ReadRefusal) → IsTokensAnswer bytes tokens texts x → IsTokensAnswer bytes tokens later x
   tokens_answer_stays bytes tokens (Ok es) h = (h.0, h.1, zip_stays (IsEntry texts) (IsEntry later) entry_stays (lexicon_of h.0.tree) es h.2)
-  tokens_answer_stays bytes tokens (Err (refusal.Syntax p)) h = h
-  tokens_answer_stays bytes tokens (Err (refusal.NotUtf8 n)) h = h
-  tokens_answer_stays bytes tokens (Err (refusal.Duplicate p)) h = h
-  tokens_answer_stays bytes tokens (Err (refusal.TooManyClasses p)) h = h
-  tokens_answer_stays bytes tokens (Err (refusal.Version n)) h = h
-  tokens_answer_stays bytes tokens (Err (refusal.NotCanonical n)) h = h
-  tokens_answer_stays bytes tokens (Err (refusal.EmptyWord p)) h = h
-  tokens_answer_stays bytes tokens (Err (refusal.EntryLiterals p)) h = h
-  tokens_answer_stays bytes tokens (Err (refusal.Variable p)) h = h
-  tokens_answer_stays bytes tokens (Err (refusal.InputLiterals p)) h = h
-  tokens_answer_stays bytes tokens (Err (refusal.TooManyInputs p)) h = h
-  tokens_answer_stays bytes tokens (Err refusal.Memory) h = h
+  tokens_answer_stays bytes tokens (Err r) h = tokens_refusal_is texts later bytes tokens r h
 
   read_stays : (bytes : List ℕ) (x : Result (List Entry) ReadRefusal) → IsRead bytes texts x → IsRead bytes later x
   read_stays bytes x h = record { tokens = h.tokens; are = h.are; right = tokens_answer_stays bytes h.tokens x h.right }
 
-  pub answer_stays : (bytes : List ℕ) (x : Result (List Entry) ReadRefusal) → IsLexiconAnswer bytes texts x → IsLexiconAnswer bytes later x
-  answer_stays bytes (Ok es) h = read_stays bytes (Ok es) h
-  answer_stays bytes (Err r) (inl e) = inl e
-  answer_stays bytes (Err r) (inr (inl h)) = inr (inl h)
-  answer_stays bytes (Err r) (inr (inr h)) = inr (inr (read_stays bytes (Err r) h))
+  pub reading_stays : (bytes : List ℕ) (x : Result (List Entry) ReadRefusal) → IsLexiconReading bytes texts x → IsLexiconReading bytes later x
+  reading_stays bytes (Ok es) h = read_stays bytes (Ok es) h
+  reading_stays bytes (Err r) h = refusal_is texts later bytes r h
+
+-- the table behind a lexicon is one
+pub one_table : (bytes : List ℕ) (old new later : List (List ℕ)) → HasTable bytes old new → HasTable bytes old later → new ≡ later
+one_table bytes old new later h k =
+    let e = one_cut bytes h.tokens k.tokens h.are k.are in
+    one_table_of lexicon_is_clear h.puts (subst (λ ts. PutsNames lexicon_text old later (lexemes bytes ts) []) (sym e) k.puts)
+
+pub table_once : (bytes : List ℕ) (old new : List (List ℕ)) → NoneTwice old → HasTable bytes old new → NoneTwice new
+table_once bytes old new once h = puts_once once h.puts
+
+-- what is right by the tables before and behind is right by the one behind
+pub reading_of : (bytes : List ℕ) (old new : List (List ℕ)) (x : Result (List Entry) ReadRefusal) → IsLexiconAnswer bytes old new x → IsLexiconReading bytes new x
+reading_of bytes old new (Ok es) h = h.0
+reading_of bytes old new (Err r) h = h
+
+-- behind one old table one answer is right
+pub one_answer : (bytes : List ℕ) (old : List (List ℕ)) → NoneTwice old → (new later : List (List ℕ)) (x y : Result (List Entry) ReadRefusal) → (x ≡ Err refusal.Memory → ⊥) → (y ≡ Err refusal.Memory → ⊥)
+    → IsLexiconAnswer bytes old new x → IsLexiconAnswer bytes old later y → x ≡ y
+one_answer bytes old once new later (Ok es) (Ok fs) m n h k =
+    one_reading bytes new (table_once bytes old new once h.1) (Ok es) (Ok fs) m n h.0 (subst (λ t. IsLexiconReading bytes t (Ok fs)) (sym (one_table bytes old new later h.1 k.1)) k.0)
+one_answer bytes old once new later (Ok es) (Err s) m n h k = one_reading bytes new (table_once bytes old new once h.1) (Ok es) (Err s) m n h.0 (refusal_is later new bytes s k)
+one_answer bytes old once new later (Err r) (Ok fs) m n h k = one_reading bytes later (table_once bytes old later once k.1) (Err r) (Ok fs) m n (refusal_is new later bytes r h) k.0
+one_answer bytes old once new later (Err r) (Err s) m n h k = one_reading bytes old once (Err r) (Err s) m n (refusal_is new old bytes r h) (refusal_is later old bytes s k)

@@ -1,6 +1,6 @@
 -- From a run over the tokens of a file to the answer for its bytes.
 use Rattle.std.proofs.Common.{◌≡◌, ℕ, ◌+◌, ◌-◌, ◌<◌, ◌≤◌, List, [], ◌∷◌, ◌++◌, length, true, Option, Some, None, Result, Ok, Err, inr, refl, ap, sym, ◌∙◌, subst, arith}
-use Rattle.std.specs.Prelude.{slice_range}
+use Rattle.std.specs.Prelude.{slice_range, OnOk}
 use Rattle.std.proofs.lemmas.List.{length-map, length-append}
 use Rattle.gr_grammar.specs.Grammars.{is_clear, IsFault, Runs, took, failed, tree_of}
 use Rattle.gr_grammar.specs.Depths.{IsShallowFault}
@@ -32,6 +32,7 @@ use Rattle.lx_lexicon.specs.Grammars.{lexicon_text, lexicon_of}
 use Rattle.lx_lexicon.specs.Complaints.{lexicon_bad}
 use Rattle.lx_lexicon.specs.Entries.{AreEntries}
 use Rattle.lx_lexicon.specs.Answers.{IsTokensAnswer, IsLexiconAnswer, judged}
+use Rattle.gr_feats.specs.Tables.{PutsNames}
 
 pub lexicon_is_clear : is_clear flat lexicon_text ≡ true
 lexicon_is_clear = refl
@@ -118,7 +119,18 @@ module _ (bytes : List ℕ) (tokens : List Token) where
         subst (λ z. (r : Runs flat lexicon_text z (took rest)) (c : Option Complaint) (es : List Entry) → c ≡ all_noted None (lexicon_bad (lexicon_of (tree_of r))) → AreEntries texts (lexicon_of (tree_of r)) es → IsTokensAnswer bytes tokens texts (judged bytes tokens c es))
         (sym is) (λ r c es. took_all rest r (omega arith) c es)
 
+-- the table behind all tokens
+pub put_all : (bytes : List ℕ) (tokens : List Token) (old new : List (List ℕ)) (now rest : List Lexeme) (left : ℕ) → now ≡ lexemes bytes tokens → left ≡ length rest → left ≤ 0
+    → PutsNames lexicon_text old new now rest → PutsNames lexicon_text old new (lexemes bytes tokens) []
+put_all bytes tokens old new now [] left is count none p = subst (λ ts. PutsNames lexicon_text old new ts []) is p
+put_all bytes tokens old new now (t ∷ rest) left is count none p = absurd (omega arith)
+
+pub judged_table : (bytes : List ℕ) (tokens : List Token) (c : Option Complaint) (es : List Entry) {P : Type 0} → P → OnOk (judged bytes tokens c es) P
+judged_table bytes tokens None es p = p
+judged_table bytes tokens (Some c) es p = tt
+
 -- the answer for the tokens is that for the bytes
-pub read_there : (bytes : List ℕ) (tokens : List Token) (texts : List (List ℕ)) (answer : Result (List Entry) ReadRefusal) → AreTokens bytes tokens → IsTokensAnswer bytes tokens texts answer → IsLexiconAnswer bytes texts answer
-read_there bytes tokens texts (Ok es) are right = record { tokens = tokens; are = are; right = right }
-read_there bytes tokens texts (Err refusal) are right = inr (inr (record { tokens = tokens; are = are; right = right }))
+pub read_there : (bytes : List ℕ) (tokens : List Token) (old new : List (List ℕ)) (answer : Result (List Entry) ReadRefusal) → AreTokens bytes tokens → IsTokensAnswer bytes tokens new answer
+    → OnOk answer (PutsNames lexicon_text old new (lexemes bytes tokens) []) → IsLexiconAnswer bytes old new answer
+read_there bytes tokens old new (Ok es) are right puts = (record { tokens = tokens; are = are; right = right }, record { tokens = tokens; are = are; puts = puts })
+read_there bytes tokens old new (Err refusal) are right puts = inr (inr (record { tokens = tokens; are = are; right = right }))

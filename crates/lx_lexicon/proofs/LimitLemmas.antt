@@ -17,7 +17,7 @@ use Rattle.lx_lexicon.specs.declared.entry.Entry.{Entry}
 use Rattle.lx_lexicon.specs.Grammars.{WrittenName, WrittenCoanchor, WrittenEntry, lexicon_of}
 use Rattle.lx_lexicon.specs.Complaints.{complaint_if, is_empty, names_of, lemma_bad, bag_bad, coanchor_bad, coanchors_bad, literals_bad, body_bad, entry_bad, lexicon_bad}
 use Rattle.lx_lexicon.specs.Entries.{IsCoName, IsEntry, AreEntries, IsNotEmpty, KeepsLimits}
-use Rattle.lx_lexicon.specs.Answers.{IsLexiconAnswer}
+use Rattle.lx_lexicon.specs.Answers.{IsLexiconReading}
 use Rattle.lx_lexicon.proofs.MetLemmas.{one_of_is, is_one}
 use Rattle.lx_lexicon.proofs.NoteLemmas.{row_length}
 
@@ -101,5 +101,5 @@ module _ (texts : List (List ℕ)) where
   entries_keep (w ∷ ws) [] h none = absurd h
   entries_keep (w ∷ ws) (e ∷ es) h none = (entry_keeps w e h.0 (none_left (entry_bad w) (lexicon_bad ws) none), entries_keep ws es h.1 (none_right (entry_bad w) (lexicon_bad ws) none))
 
-  pub lexicon_keeps : (bytes : List ℕ) (es : List Entry) → IsLexiconAnswer bytes texts (Ok es) → Each (KeepsLimits texts) es
+  pub lexicon_keeps : (bytes : List ℕ) (es : List Entry) → IsLexiconReading bytes texts (Ok es) → Each (KeepsLimits texts) es
   lexicon_keeps bytes es h = entries_keep (lexicon_of h.right.0.tree) es h.right.2 h.right.1

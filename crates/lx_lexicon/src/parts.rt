@@ -1,10 +1,11 @@
 //! Reads the parts of an entry.
-ghost use Rattle.std.specs.Prelude.{codes};
+ghost use Rattle.std.specs.Prelude.{OnOk, codes};
 ghost use Rattle.gr_grammar.specs.Grammars.{tok, alt, star, nil};
 ghost use Rattle.gr_reader.specs.Classes.{flat, any_name};
 ghost use Rattle.gr_reader.specs.Parts.{Reads};
 ghost use Rattle.gr_feats.specs.Passing.{Later, Passes, PassesTexts};
 ghost use Rattle.gr_feats.specs.Readings.{IsBag, AreLiterals};
+ghost use Rattle.gr_feats.specs.Tables.{PutsNames};
 ghost use Rattle.lx_lexicon.specs.Grammars.{name_of, coanchor_text, coanchor_of, coanchors_of, word_bag_text, word_bag_of, perhaps_bag_of, sem_text, sem_of, perhaps_sem_of, head_text, head_of, body_text, body_of, entry_text, entry_of};
 ghost use Rattle.lx_lexicon.specs.Reading.{IsNamed, IsCoanchor, AreCoanchors, IsHead, IsBody, IsFound};
 
@@ -25,6 +26,7 @@ use std::alloc::Global;
 fn named(reader: &mut Reader<'_>, symbols: &mut Symbols) -> Result<Named, Stop>
     ensures reads { Reads flat (tok any_name) (λ ts rest m x. Later symbols.new (λ texts. IsNamed texts (name_of m) x)) reader.old reader.new result }
     ensures passes { PassesTexts symbols.old symbols.new reader.old reader.new }
+    ensures table { OnOk result (PutsNames (tok any_name) symbols.old symbols.new reader.old reader.new) }
 {
     let left = reader.left();
     let name = number(reader, symbols, Class::AnyName)?;
@@ -35,6 +37,7 @@ fn named(reader: &mut Reader<'_>, symbols: &mut Symbols) -> Result<Named, Stop>
 fn coanchor(reader: &mut Reader<'_>, symbols: &mut Symbols) -> Result<Coanchor, Stop>
     ensures reads { Reads flat coanchor_text (λ ts rest m x. Later symbols.new (λ texts. IsCoanchor texts (coanchor_of m) x)) reader.old reader.new result }
     ensures passes { PassesTexts symbols.old symbols.new reader.old reader.new }
+    ensures table { OnOk result (PutsNames coanchor_text symbols.old symbols.new reader.old reader.new) }
 {
     let _word = reader.take(Class::Keyword("coanchor"))?;
     let name = named(reader, symbols)?;
@@ -51,6 +54,7 @@ fn coanchors(
 ) -> Result<Items<Coanchor>, Stop>
     ensures reads { Reads flat (star coanchor_text) (λ ts rest m x. Later symbols.new (λ texts. AreCoanchors texts (coanchors_of m) x)) reader.old reader.new result }
     ensures passes { PassesTexts symbols.old symbols.new reader.old reader.new }
+    ensures table { OnOk result (PutsNames (star coanchor_text) symbols.old symbols.new reader.old reader.new) }
 {
     let mut row = Items::new(alloc);
     'row: while reader.sees(Class::Keyword("coanchor")) {
@@ -70,6 +74,7 @@ fn word_bag(
 ) -> Result<Gathered, Stop>
     ensures reads { Reads flat (word_bag_text word.now) (λ ts rest m x. Later symbols.new (λ texts. IsBag texts names.old (word_bag_of m) x names.new)) reader.old reader.new result }
     ensures passes { Passes symbols.old symbols.new reader.old reader.new names.old names.new }
+    ensures table { OnOk result (PutsNames (word_bag_text word.now) symbols.old symbols.new reader.old reader.new) }
 {
     let _word = reader.take(Class::Keyword(word))?;
     let inner = bag(alloc, reader, symbols, names)?;
@@ -86,6 +91,7 @@ fn perhaps_bag(
 ) -> Result<Gathered, Stop>
     ensures reads { Reads flat (alt (word_bag_text word.now) nil) (λ ts rest m x. Later symbols.new (λ texts. IsBag texts names.old (perhaps_bag_of m) x names.new)) reader.old reader.new result }
     ensures passes { Passes symbols.old symbols.new reader.old reader.new names.old names.new }
+    ensures table { OnOk result (PutsNames (alt (word_bag_text word.now) nil) symbols.old symbols.new reader.old reader.new) }
 {
     if reader.sees(Class::Keyword(word)) {
         let inner = word_bag(alloc, reader, symbols, names, word)?;
@@ -104,6 +110,7 @@ fn sem(
 ) -> Result<Literals, Stop>
     ensures reads { Reads flat sem_text (λ ts rest m x. Later symbols.new (λ texts. AreLiterals texts names.old (sem_of m) x names.new)) reader.old reader.new result }
     ensures passes { Passes symbols.old symbols.new reader.old reader.new names.old names.new }
+    ensures table { OnOk result (PutsNames sem_text symbols.old symbols.new reader.old reader.new) }
 {
     let _word = reader.take(Class::Keyword("sem"))?;
     let _open = reader.take(Class::Sign("{"))?;
@@ -120,6 +127,7 @@ fn perhaps_sem(
 ) -> Result<Literals, Stop>
     ensures reads { Reads flat (alt sem_text nil) (λ ts rest m x. Later symbols.new (λ texts. AreLiterals texts names.old (perhaps_sem_of m) x names.new)) reader.old reader.new result }
     ensures passes { Passes symbols.old symbols.new reader.old reader.new names.old names.new }
+    ensures table { OnOk result (PutsNames (alt sem_text nil) symbols.old symbols.new reader.old reader.new) }
 {
     if reader.sees(Class::Keyword("sem")) {
         let inner = sem(alloc, reader, symbols, names)?;
@@ -133,6 +141,7 @@ fn perhaps_sem(
 fn head(reader: &mut Reader<'_>, symbols: &mut Symbols) -> Result<Head, Stop>
     ensures reads { Reads flat head_text (λ ts rest m x. Later symbols.new (λ texts. IsHead texts (head_of m) x)) reader.old reader.new result }
     ensures passes { PassesTexts symbols.old symbols.new reader.old reader.new }
+    ensures table { OnOk result (PutsNames head_text symbols.old symbols.new reader.old reader.new) }
 {
     let left = reader.left();
     let _word = reader.take(Class::Keyword("entry"))?;
@@ -149,6 +158,7 @@ fn head(reader: &mut Reader<'_>, symbols: &mut Symbols) -> Result<Head, Stop>
 fn body(alloc: Global, reader: &mut Reader<'_>, symbols: &mut Symbols) -> Result<Body, Stop>
     ensures reads { Reads flat body_text (λ ts rest m x. Later symbols.new (λ texts. IsBody texts (body_of m) x)) reader.old reader.new result }
     ensures passes { PassesTexts symbols.old symbols.new reader.old reader.new }
+    ensures table { OnOk result (PutsNames body_text symbols.old symbols.new reader.old reader.new) }
 {
     let mut names = Names::new(alloc);
     let iface = perhaps_bag(alloc, reader, symbols, &mut names, "iface")?;
@@ -167,6 +177,7 @@ fn body(alloc: Global, reader: &mut Reader<'_>, symbols: &mut Symbols) -> Result
 pub fn entry(alloc: Global, reader: &mut Reader<'_>, symbols: &mut Symbols) -> Result<Found, Stop>
     ensures reads { Reads flat entry_text (λ ts rest m x. Later symbols.new (λ texts. IsFound texts (entry_of m) x)) reader.old reader.new result }
     ensures passes { PassesTexts symbols.old symbols.new reader.old reader.new }
+    ensures table { OnOk result (PutsNames entry_text symbols.old symbols.new reader.old reader.new) }
 {
     let head = head(reader, symbols)?;
     let _open = reader.take(Class::Sign("{"))?;

@@ -1,9 +1,11 @@
 //! Reads a lexicon from its bytes.
-ghost use Rattle.std.specs.Prelude.{◌≡◌, ◌+◌, ◌≤◌, length};
+ghost use Rattle.std.specs.Prelude.{◌≡◌, ◌+◌, ◌≤◌, [], length, OnOk};
 ghost use Rattle.gr_reader.specs.Classes.{flat};
 ghost use Rattle.gr_reader.specs.Complaints.{all_noted};
 ghost use Rattle.gr_reader.specs.Parts.{Reads};
 ghost use Rattle.gr_feats.specs.Passing.{Later, PassesTexts};
+ghost use Rattle.gr_feats.specs.Tables.{PutsNames};
+ghost use Rattle.gr_reader.specs.Lexemes.{lexemes};
 ghost use Rattle.gr_symbols.specs.Numbers.{Grows};
 ghost use Rattle.gr_tokens.specs.Answers.{AreTokens};
 ghost use Rattle.lx_lexicon.specs.Answers.{IsTokensAnswer, IsLexiconAnswer, judged};
@@ -33,6 +35,7 @@ fn next_entry(
     ensures reads { Reads flat entry_text (λ ts rest m x. Later symbols.new (λ texts. IsEntry texts (entry_of m) x)
         × (complaints.new ≡ all_noted complaints.old (entry_bad (entry_of m)))) reader.old reader.new result }
     ensures passes { PassesTexts symbols.old symbols.new reader.old reader.new }
+    ensures table { OnOk result (PutsNames entry_text symbols.old symbols.new reader.old reader.new) }
 {
     let found = entry(alloc, reader, symbols)?;
     let next = accepted(alloc, found, symbols, complaints)?;
@@ -49,6 +52,7 @@ fn entries(
     ensures reads { Reads flat lexicon_text (λ ts rest m x. Later symbols.new (λ texts. AreEntries texts (lexicon_of m) x)
         × (complaints.new ≡ all_noted complaints.old (lexicon_bad (lexicon_of m)))) reader.old reader.new result }
     ensures passes { PassesTexts symbols.old symbols.new reader.old reader.new }
+    ensures table { OnOk result (PutsNames lexicon_text symbols.old symbols.new reader.old reader.new) }
 {
     let mut lexicon = Items::new(alloc);
     'row: while reader.sees(Class::Keyword("entry")) {
@@ -84,6 +88,7 @@ fn read_tokens(
     requires bytes { length bytes.now ≤ 1048576 }
     requires tokens { AreTokens bytes.now tokens.now }
     ensures answer { IsTokensAnswer bytes.now tokens.now symbols.new result }
+    ensures table { OnOk result (PutsNames lexicon_text symbols.old symbols.new (lexemes bytes.now tokens.now) []) }
     ensures grows { Grows symbols.old symbols.new }
     ensures few { length symbols.new ≤ length symbols.old + length tokens.now }
 {
@@ -103,10 +108,11 @@ fn read_tokens(
 }
 
 /// The lexicon that the bytes spell, at most 1,048,576 of them: its entries, in the order of the text.
-/// Names are numbers of the table, which keeps all of its texts and gets at most as many new ones as
-/// there are bytes, also where the text is refused. Variables are numbered from 0 in each entry, by
-/// first meeting in the interface, the anchor's features and the literals; a literal without a handle
-/// has the next variable as handle.
+/// Names are numbers of the table. It keeps all of its texts and gets the names and variables of the
+/// lexicon, which are taken in the order of the text, and nothing more; where the text is refused, at
+/// most as many as there are bytes. Variables are numbered from 0 in each entry, by first meeting in
+/// the interface, the anchor's features and the literals; a literal without a handle has the next
+/// variable as handle.
 ///
 /// A text that isn't UTF-8 is refused as `NotUtf8`. It is refused as `Syntax` at the first byte that
 /// begins no token, or else at the first token after which no lexicon goes on, or at the end. Then the
@@ -120,7 +126,7 @@ pub fn read_lexicon(
     symbols: &mut Symbols,
 ) -> Result<Lexicon, ReadRefusal>
     requires { length bytes.now ≤ 1048576 }
-    ensures answer { IsLexiconAnswer bytes.now symbols.new result }
+    ensures answer { IsLexiconAnswer bytes.now symbols.old symbols.new result }
     ensures grows { Grows symbols.old symbols.new }
     ensures few { length symbols.new ≤ length symbols.old + length bytes.now }
 {

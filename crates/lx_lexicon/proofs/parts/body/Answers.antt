@@ -2,6 +2,7 @@ use Rattle.std.proofs.Common.{◌≡◌, Err, rules}
 use Rattle.gr_symbols.proofs.NumberLemmas.{Grows-trans}
 use Rattle.gr_grammar.specs.Grammars.{run_both}
 use Rattle.gr_reader.proofs.Steps.{first_stops, then_stops}
+use Rattle.gr_feats.proofs.TableLemmas.{puts_both}
 use Rattle.lx_lexicon.proofs.parts.body.Goals as goal
 
 pub returns-in_err-iface-clause-reads : goal.returns-in_err-iface-clause-reads
@@ -41,3 +42,6 @@ returns-clause-reads c = (
         literals = c.in_ok-sem.ensures.reads.1 later g;
       },
 )
+
+pub returns-clause-table : goal.returns-clause-table
+returns-clause-table c = puts_both c.in_ok-iface.ensures.table (puts_both c.in_ok-anchor.ensures.table (puts_both c.in_ok-coanchors.ensures.table c.in_ok-sem.ensures.table))

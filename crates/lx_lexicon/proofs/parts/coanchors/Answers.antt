@@ -33,10 +33,13 @@ pub row-preserved : goal.row-preserved
 row-preserved c =
     let b : begins flat coanchor_text c.row.reader ≡ true = begins_token (keyword (codes "coanchor")) c.row.reader c.sees.ensures c.row-test.true in
     ReadsOn-more coanchor_text (λ ts rest m. coanchor_of m) (λ texts ws x. AreCoanchors texts ws x.0) _ _ _ _ _ (_, none_met) _ _ (_, none_met)
-    c.row.invariant b c.in_ok-next.ensures.reads.0 (pass_texts c.in_ok-next.ensures.passes)
+    c.row.invariant b c.in_ok-next.ensures.reads.0 (pass_texts c.in_ok-next.ensures.passes) c.in_ok-next.ensures.table
     (λ ws later grows h. row_pushed (IsCoanchor later) ws _ _ _ _ h (c.in_ok-next.ensures.reads.1 later grows) c.in_ok-_next.ensures.ok)
 
 pub returns-clause-reads : goal.returns-clause-reads
 returns-clause-reads c =
     let b : begins flat coanchor_text c.row.reader ≡ false = begins_token (keyword (codes "coanchor")) c.row.reader c.sees.ensures c.row-test.false in
     row_ended coanchor_text (λ ts rest m. coanchor_of m) (λ texts ws x. AreCoanchors texts ws x.0) _ _ _ _ _ _ c.row.invariant b (λ later. row_none (IsCoanchor later) _ c.new-row.ensures)
+
+pub returns-clause-table : goal.returns-clause-table
+returns-clause-table c = c.row.invariant.puts

@@ -1,7 +1,8 @@
-use Rattle.std.proofs.Common.{◌≡◌, Err, rules}
+use Rattle.std.proofs.Common.{◌≡◌, Err, rules, refl}
 use Rattle.gr_symbols.proofs.NumberLemmas.{Grows-trans}
 use Rattle.gr_grammar.specs.Grammars.{run_both}
 use Rattle.gr_reader.proofs.Steps.{first_stops, then_stops, token_run, token_stops}
+use Rattle.gr_feats.proofs.TableLemmas.{puts_both, puts_closed}
 use Rattle.lx_lexicon.proofs.parts.head.Goals as goal
 
 pub returns-in_err-_word-clause-reads : goal.returns-in_err-_word-clause-reads
@@ -28,3 +29,6 @@ returns-clause-reads c = (
     family = c.in_ok-family.ensures.reads.1 later g;
   },
 )
+
+pub returns-clause-table : goal.returns-clause-table
+returns-clause-table c = puts_both (puts_closed refl c.in_ok-_word.ensures.took) (puts_both c.in_ok-lemma.ensures.table (c.in_ok-family.ensures.table refl))

@@ -4,6 +4,7 @@ use Rattle.gr_reader.specs.Classes.{keyword, flat}
 use Rattle.gr_reader.proofs.Steps.{left_stops}
 use Rattle.gr_feats.proofs.ReadingLemmas.{begins_token, IsBag-none}
 use Rattle.lx_lexicon.specs.Grammars.{word_bag_text}
+use Rattle.gr_feats.proofs.TableLemmas.{puts_left, puts_nothing}
 use Rattle.lx_lexicon.proofs.parts.perhaps_bag.Goals as goal
 
 pub returns-in_err-inner-clause-reads : goal.returns-in_err-inner-clause-reads
@@ -21,3 +22,9 @@ pub returns-else-sees-clause-reads : goal.returns-else-sees-clause-reads
 returns-else-sees-clause-reads c =
     let b : begins flat (word_bag_text c.args.word.now) c.args.reader.now ≡ false = begins_token (keyword c.args.word.now) c.args.reader.now c.sees.ensures c.if-sees.false in
     (run_right b take_nothing, λ later grows. IsBag-none later _ _ c.new.ensures)
+
+pub returns-in_ok-inner-clause-table : goal.returns-in_ok-inner-clause-table
+returns-in_ok-inner-clause-table c = puts_left c.in_ok-inner.ensures.table
+
+pub returns-else-sees-clause-table : goal.returns-else-sees-clause-table
+returns-else-sees-clause-table c = puts_nothing

@@ -1,6 +1,7 @@
-use Rattle.std.proofs.Common.{◌≡◌, Err, rules}
+use Rattle.std.proofs.Common.{◌≡◌, Err, rules, refl}
 use Rattle.gr_grammar.specs.Grammars.{run_both}
 use Rattle.gr_reader.proofs.Steps.{first_stops, then_stops, token_run, token_stops}
+use Rattle.gr_feats.proofs.TableLemmas.{puts_both, puts_closed}
 use Rattle.lx_lexicon.proofs.parts.sem.Goals as goal
 
 pub returns-in_err-_word-clause-reads : goal.returns-in_err-_word-clause-reads
@@ -20,3 +21,6 @@ returns-in_err-inner-clause-reads c =
 
 pub returns-clause-reads : goal.returns-clause-reads
 returns-clause-reads c = (run_both (token_run c.in_ok-_word.ensures.took) (run_both (token_run c.in_ok-_open.ensures.took) c.in_ok-inner.ensures.reads.0), c.in_ok-inner.ensures.reads.1)
+
+pub returns-clause-table : goal.returns-clause-table
+returns-clause-table c = puts_both (puts_closed refl c.in_ok-_word.ensures.took) (puts_both (puts_closed refl c.in_ok-_open.ensures.took) c.in_ok-inner.ensures.table)

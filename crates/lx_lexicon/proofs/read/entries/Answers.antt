@@ -38,7 +38,7 @@ row-preserved c =
     let b : begins flat entry_text c.row.reader ≡ true = begins_token (keyword (codes "entry")) c.row.reader c.sees.ensures c.row-test.true in
     let w = entry_of (tree_of c.in_ok-next.ensures.reads.0) in
     ReadsOn-more entry_text (λ ts rest m. entry_of m) (AreNoted c.args.complaints.now) _ _ _ _ _ (_, none_met) _ _ (_, none_met)
-    c.row.invariant b c.in_ok-next.ensures.reads.0 (pass_texts c.in_ok-next.ensures.passes)
+    c.row.invariant b c.in_ok-next.ensures.reads.0 (pass_texts c.in_ok-next.ensures.passes) c.in_ok-next.ensures.table
     (λ ws later grows h. (
       row_pushed (IsEntry later) ws _ _ w _ h.0 (c.in_ok-next.ensures.reads.1.0 later grows) c.in_ok-_next.ensures.ok,
       noted_then c.args.complaints.now _ _ (lexicon_bad ws) (entry_bad w) h.1 c.in_ok-next.ensures.reads.1.1 ∙ ap (all_noted c.args.complaints.now) (sym (lexicon_more ws w)),
@@ -49,3 +49,6 @@ returns-clause-reads c =
     let b : begins flat entry_text c.row.reader ≡ false = begins_token (keyword (codes "entry")) c.row.reader c.sees.ensures c.row-test.false in
     let p = row_ended entry_text (λ ts rest m. entry_of m) (AreNoted c.args.complaints.now) _ _ _ _ _ _ c.row.invariant b (λ later. (row_none (IsEntry later) _ c.new-lexicon.ensures, refl)) in
     (p.0, (λ later grows. (p.1 later grows).0, (p.1 c.row.symbols (Grows-refl c.row.symbols)).1))
+
+pub returns-clause-table : goal.returns-clause-table
+returns-clause-table c = c.row.invariant.puts

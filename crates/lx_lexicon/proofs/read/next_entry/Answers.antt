@@ -29,3 +29,6 @@ returns-clause-reads c =
       c.in_ok-found.ensures.reads.0,
       (λ later g. c.in_ok-next.ensures.entry later w (c.in_ok-found.ensures.reads.1 later g), c.in_ok-next.ensures.noted w (c.in_ok-found.ensures.reads.1 _ (Grows-refl _))),
     )
+
+pub returns-clause-table : goal.returns-clause-table
+returns-clause-table c = c.in_ok-found.ensures.table

@@ -4,7 +4,7 @@ use Rattle.std.proofs.lemmas.List.{append-nil}
 use Rattle.gr_base.specs.Lists.{NoneTwice}
 use Rattle.gr_symbols.specs.Numbers.{with_text, with_texts}
 use Rattle.gr_symbols.proofs.NumberLemmas.{with_texts-append, with_texts-once}
-use Rattle.gr_grammar.specs.Grammars.{Grammar, tok, nil, seq, alt, star, is_clear, goes, Matches, a_token, no_token, both, the_left, the_right, no_more, one_more, tree_of}
+use Rattle.gr_grammar.specs.Grammars.{Grammar, tok, nil, seq, alt, star, is_clear, goes, Matches, a_token, no_token, both, the_left, the_right, no_more, one_more, tree_of, items}
 use Rattle.gr_grammar.proofs.OneTree.{one_tree}
 use Rattle.gr_reader.specs.Lexemes.{Lexeme}
 use Rattle.gr_reader.specs.Classes.{Class, flat}
@@ -54,7 +54,7 @@ puts_skip true closed t = puts_left (puts_closed closed t)
 puts_skip {c} {texts} {ts} false closed s = subst (λ z. PutsNames (alt (tok c) nil) texts texts ts z) (sym s.same) puts_nothing
 
 -- a row of one more
-one_behind : {g : Grammar Class} {ts mid rest : List Lexeme} → Matches flat (star g) ts mid → Matches flat g mid rest → Matches flat (star g) ts rest
+pub one_behind : {g : Grammar Class} {ts mid rest : List Lexeme} → Matches flat (star g) ts mid → Matches flat g mid rest → Matches flat (star g) ts rest
 one_behind no_more m = one_more (both m no_more)
 one_behind (one_more (both p ps)) m = one_more (both p (one_behind ps m))
 
@@ -62,6 +62,12 @@ names_behind : {g : Grammar Class} {ts mid rest : List Lexeme} (ms : Matches fla
 unfolding one_behind
 names_behind no_more m = append-nil (names_in m)
 names_behind (one_more (both p ps)) m = ap (λ z. names_in p ++ z) (names_behind ps m) ∙ sym (append_assoc (names_in p) (names_in ps) (names_in m))
+
+pub items_behind : {A : Type 0} {g : Grammar Class} (f : (ts rest : List Lexeme) → Matches flat g ts rest → A) {ts mid rest : List Lexeme} (ms : Matches flat (star g) ts mid) (m : Matches flat g mid rest)
+    → items f (one_behind ms m) ≡ items f ms ++ f mid rest m ∷ []
+unfolding one_behind
+items_behind f no_more m = refl
+items_behind f (one_more (both {ts} {mid} p ps)) m = ap (λ z. f ts mid p ∷ z) (items_behind f ps m)
 
 pub puts_start : {g : Grammar Class} {a : List (List ℕ)} {ts : List Lexeme} → PutsNames (star g) a a ts ts
 puts_start = record { tree = no_more; table = refl }

@@ -1,6 +1,6 @@
 -- What was read of the tokens of a file, with its first complaint, is the right answer.
 use Rattle.std.proofs.Common.{◌≡◌, ℕ, suc, ◌-◌, ◌≤◌, List, [], ◌∷◌, ◌++◌, length, Bool, true, false, Option, Some, None, Result, Ok, Err, inl, inr, refl, sym, ◌∙◌, ap, subst, arith}
-use Rattle.std.specs.Prelude.{nat_lt, ◌==◌}
+use Rattle.std.specs.Prelude.{nat_lt, ◌==◌, OnOk, slice_range}
 use Rattle.std.specs.List.{AllZip}
 use Rattle.std.proofs.lemmas.Bool.{true≢false, cases_lt, lt-ltb}
 use Rattle.gr_base.specs.Lists.{Each, NoneTwice}
@@ -18,12 +18,16 @@ use Rattle.gr_reader.proofs.ComplaintLemmas.{noted_append, none_is}
 use Rattle.gr_text.specs.declared.Place.{Place}
 use Rattle.sm_input.specs.declared.input.Input.{Input}
 use Rattle.gr_tokens.specs.Answers.{AreTokens}
-use Rattle.sm_input.specs.Answers.{Inputs, IsTokensAnswer, IsInputsAnswer, judged, noted_at}
+use Rattle.sm_input.specs.Answers.{Inputs, IsTokensAnswer, PutsTokens, IsInputsAnswer, judged, noted_at}
 use Rattle.sm_input.specs.Complaints.{complaint_if, complaint_at, again_left, input_bad, inputs_bad, variable_left, file_bad}
 use Rattle.sm_input.specs.Firsts.{firsts}
 use Rattle.sm_input.specs.Grammars.{WrittenInput, inputs_text, inputs_of}
 use Rattle.sm_input.specs.Inputs.{IsInput, AreInputs}
-use Rattle.sm_input.specs.Reading.{IsFaultless, AreFaultless, IsPlain, InputHas}
+use Rattle.sm_input.specs.Reading.{IsFaultless, AreFaultless, IsPlain, InputHas, PutsInputs}
+use Rattle.gr_grammar.proofs.OneTree.{one_tree}
+use Rattle.gr_reader.proofs.Files.{later_lexemes}
+use Rattle.gr_reader.proofs.LexemeLemmas.{Lexeme-set}
+use Rattle.gr_reader.proofs.Systems.{flat_is_system}
 use Rattle.sm_input.proofs.Plain.{none_left, plain_inputs}
 
 -- lists that are empty together
@@ -111,7 +115,36 @@ module _ (bytes : List ℕ) (tokens : List Token) (texts : List (List ℕ)) (f :
       noted_append None (inputs_bad 0 (inputs_of f.tree)) (complaint_at Variable v) ∙ (ap (λ u. all_noted u (complaint_at Variable v)) (sym is) ∙ (sym (noted_at_is c v) ∙ sym note)) in
       subst Answers (sym e) (judged_by d row all z)
 
+  -- what follows where nothing is wrong follows of each answer that has inputs
+  judged_table : (k : Option Complaint) (row : Inputs) {P : Type 0} → all_noted None bad ≡ k → (Each IsFaultless (inputs_of f.tree) → P) → OnOk (judged bytes tokens k row) P
+  judged_table None row e p =
+      let none : bad ≡ [] = none_is bad e in
+      let ws = inputs_of f.tree in
+      let v = variable_left (lexemes bytes tokens) in
+      let plain = plain_inputs f.tree (none_left (lexemes bytes tokens) (no_complaint_at Variable v (right_empty (inputs_bad 0 ws) (complaint_at Variable v) none))) in
+      p (all_faultless 0 ws plain (left_empty (inputs_bad 0 ws) (complaint_at Variable v) none))
+  judged_table (Some c) row e p = tt
+
+  pub table_right : (c d : Option Complaint) (row : Inputs) (x : Result Inputs ReadRefusal) (old new : List (List ℕ)) → c ≡ all_noted None (inputs_bad 0 (inputs_of f.tree))
+      → d ≡ noted_at c (variable_left (lexemes bytes tokens)) → x ≡ judged bytes tokens d row → PutsInputs old new (lexemes bytes tokens) [] → OnOk x (PutsTokens bytes tokens old new)
+  table_right c d row x old new is note e puts =
+      let v = variable_left (lexemes bytes tokens) in
+      let all : all_noted None bad ≡ d =
+      noted_append None (inputs_bad 0 (inputs_of f.tree)) (complaint_at Variable v) ∙ (ap (λ u. all_noted u (complaint_at Variable v)) (sym is) ∙ (sym (noted_at_is c v) ∙ sym note)) in
+      subst (λ z. OnOk z (PutsTokens bytes tokens old new)) (sym e)
+      (judged_table d row all (λ faultless. record {
+        tree = puts.tree;
+        table = puts.table (subst (λ m. Each IsFaultless (inputs_of m)) (one_tree flat flat_is_system Lexeme-set refl f.tree puts.tree) faultless);
+      }))
+
+-- the table behind all tokens
+pub put_all : (bytes : List ℕ) (tokens : List Token) (old new : List (List ℕ)) (now rest : List Lexeme) (left : ℕ) → now ≡ lexemes bytes (slice_range tokens 0 (length tokens)) → left ≡ length rest → left ≤ 0
+    → PutsInputs old new now rest → PutsInputs old new (lexemes bytes tokens) []
+put_all bytes tokens old new now [] left is count none p = subst (λ ts. PutsInputs old new ts []) (is ∙ later_lexemes bytes tokens 0) p
+put_all bytes tokens old new now (t ∷ rest) left is count none p = absurd (omega arith)
+
 -- the answer for the tokens is that for the bytes
-pub read_there : (bytes : List ℕ) (tokens : List Token) (texts : List (List ℕ)) (answer : Result Inputs ReadRefusal) → AreTokens bytes tokens → IsTokensAnswer bytes tokens texts answer → IsInputsAnswer bytes texts answer
-read_there bytes tokens texts (Ok is) are right = record { tokens = tokens; are = are; right = right }
-read_there bytes tokens texts (Err refusal) are right = inr (inr (record { tokens = tokens; are = are; right = right }))
+pub read_there : (bytes : List ℕ) (tokens : List Token) (old new : List (List ℕ)) (answer : Result Inputs ReadRefusal) → AreTokens bytes tokens → IsTokensAnswer bytes tokens new answer
+    → OnOk answer (PutsTokens bytes tokens old new) → IsInputsAnswer bytes old new answer
+read_there bytes tokens old new (Ok is) are right puts = (record { tokens = tokens; are = are; right = right }, record { tokens = tokens; are = are; puts = puts })
+read_there bytes tokens old new (Err refusal) are right puts = inr (inr (record { tokens = tokens; are = are; right = right }))

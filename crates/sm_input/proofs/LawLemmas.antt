@@ -18,8 +18,13 @@ use Rattle.gr_feats.specs.Grammars.{WrittenLiteral}
 use Rattle.gr_feats.specs.Numberings.{none_met}
 use Rattle.gr_feats.proofs.MadeLemmas.{bag_made}
 use Rattle.sm_input.specs.declared.input.Input.{Input}
-use Rattle.sm_input.specs.Answers.{Inputs, IsTokensAnswer, IsRead, IsInputsAnswer, IsSame}
+use Rattle.sm_input.specs.Answers.{Inputs, IsTokensAnswer, IsRead, PutsTokens, HasTable, IsInputsAnswer, IsInputsReading, IsSame}
 use Rattle.sm_input.specs.Complaints.{complaint_at, inputs_bad, variable_left, file_bad}
+use Rattle.gr_symbols.specs.Numbers.{with_texts}
+use Rattle.gr_symbols.proofs.NumberLemmas.{with_texts-once}
+use Rattle.gr_grammar.proofs.OneTree.{one_tree}
+use Rattle.gr_reader.proofs.LexemeLemmas.{Lexeme-set}
+use Rattle.sm_input.specs.Tables.{inputs_names}
 use Rattle.sm_input.specs.Firsts.{firsts, is_there}
 use Rattle.sm_input.specs.Grammars.{WrittenInput, inputs_text, inputs_of}
 use Rattle.sm_input.specs.Inputs.{IsInput, AreInputs, IsGround}
@@ -73,26 +78,26 @@ module _ (bytes : List ℕ) (texts : List (List ℕ)) where
   moved : (x : Result Inputs ReadRefusal) (h : IsRead bytes texts x) (ts : List Token) → AreTokens bytes ts → IsTokensAnswer bytes ts texts x
   moved x h ts are = subst (λ us. IsTokensAnswer bytes us texts x) (same_tokens h.tokens ts h.are are) h.right
 
-  pub one_answer : NoneTwice texts → (x y : Result Inputs ReadRefusal) → (x ≡ Err refusal.Memory → ⊥) → (y ≡ Err refusal.Memory → ⊥) → IsInputsAnswer bytes texts x → IsInputsAnswer bytes texts y → IsSame x y
-  one_answer once (Ok a) (Ok b) m n h k =
+  pub one_reading : NoneTwice texts → (x y : Result Inputs ReadRefusal) → (x ≡ Err refusal.Memory → ⊥) → (y ≡ Err refusal.Memory → ⊥) → IsInputsReading bytes texts x → IsInputsReading bytes texts y → IsSame x y
+  one_reading once (Ok a) (Ok b) m n h k =
       let l = moved (Ok b) k h.tokens h.are in
       one_inputs texts once (inputs_of h.right.0.tree) a.items b.items h.right.2
       (subst (λ t. AreInputs texts (inputs_of t) b.items) (same_tree flat flat_is_system inputs_text refl (λ ts rest m. file_bad m) bytes h.tokens l.0 h.right.0) l.2)
-  one_answer once (Ok a) (Err s) m n h k = elim k [
+  one_reading once (Ok a) (Err s) m n h k = elim k [
     | inl e ↦ absurd (n (ap Err e))
     | inr k ↦ elim k [
       | inl c ↦ uncut h.tokens s h.are c
       | inr r ↦ no_refusal flat flat_is_system inputs_text refl (λ ts rest m. file_bad m) bytes h.tokens right a s (λ e. n (ap Err e)) h.right (moved (Err s) r h.tokens h.are)
     ]
   ]
-  one_answer once (Err r) (Ok b) m n h k = elim h [
+  one_reading once (Err r) (Ok b) m n h k = elim h [
     | inl e ↦ absurd (m (ap Err e))
     | inr h ↦ elim h [
       | inl c ↦ uncut k.tokens r k.are c
       | inr i ↦ no_refusal flat flat_is_system inputs_text refl (λ ts rest m. file_bad m) bytes k.tokens right b r (λ e. m (ap Err e)) k.right (moved (Err r) i k.tokens k.are)
     ]
   ]
-  one_answer once (Err r) (Err s) m n h k = elim h [
+  one_reading once (Err r) (Err s) m n h k = elim h [
     | inl e ↦ absurd (m (ap Err e))
     | inr h ↦ elim k [
       | inl e ↦ absurd (n (ap Err e))
@@ -106,27 +111,32 @@ module _ (bytes : List ℕ) (texts : List (List ℕ)) where
     ]
   ]
 
--- answers stay right
-module _ (texts later : List (List ℕ)) (grows : Grows texts later) where
-  refusal_stays : (bytes : List ℕ) (tokens : List Token) (r : ReadRefusal) → IsTokensAnswer bytes tokens texts (Err r) → IsTokensAnswer bytes tokens later (Err r)
-  refusal_stays bytes tokens (refusal.Syntax p) h = h
-  refusal_stays bytes tokens (refusal.NotUtf8 n) h = h
-  refusal_stays bytes tokens (refusal.Duplicate p) h = h
-  refusal_stays bytes tokens (refusal.TooManyClasses p) h = h
-  refusal_stays bytes tokens (refusal.Version n) h = h
-  refusal_stays bytes tokens (refusal.NotCanonical n) h = h
-  refusal_stays bytes tokens (refusal.EmptyWord p) h = h
-  refusal_stays bytes tokens (refusal.EntryLiterals p) h = h
-  refusal_stays bytes tokens (refusal.Variable p) h = h
-  refusal_stays bytes tokens (refusal.InputLiterals p) h = h
-  refusal_stays bytes tokens (refusal.TooManyInputs p) h = h
-  refusal_stays bytes tokens refusal.Memory h = h
+-- a refusal says nothing of the table
+module _ (texts later : List (List ℕ)) where
+  tokens_refusal_is : (bytes : List ℕ) (tokens : List Token) (r : ReadRefusal) → IsTokensAnswer bytes tokens texts (Err r) → IsTokensAnswer bytes tokens later (Err r)
+  tokens_refusal_is bytes tokens (refusal.Syntax p) h = h
+  tokens_refusal_is bytes tokens (refusal.NotUtf8 n) h = h
+  tokens_refusal_is bytes tokens (refusal.Duplicate p) h = h
+  tokens_refusal_is bytes tokens (refusal.TooManyClasses p) h = h
+  tokens_refusal_is bytes tokens (refusal.Version n) h = h
+  tokens_refusal_is bytes tokens (refusal.NotCanonical n) h = h
+  tokens_refusal_is bytes tokens (refusal.EmptyWord p) h = h
+  tokens_refusal_is bytes tokens (refusal.EntryLiterals p) h = h
+  tokens_refusal_is bytes tokens (refusal.Variable p) h = h
+  tokens_refusal_is bytes tokens (refusal.InputLiterals p) h = h
+  tokens_refusal_is bytes tokens (refusal.TooManyInputs p) h = h
+  tokens_refusal_is bytes tokens refusal.Memory h = h
 
-  pub answer_stays : (bytes : List ℕ) (x : Result Inputs ReadRefusal) → IsInputsAnswer bytes texts x → IsInputsAnswer bytes later x
-  answer_stays bytes (Ok a) h = record { tokens = h.tokens; are = h.are; right = (h.right.0, h.right.1, inputs_stay texts later grows (inputs_of h.right.0.tree) a.items h.right.2) }
-  answer_stays bytes (Err r) (inl e) = inl e
-  answer_stays bytes (Err r) (inr (inl c)) = inr (inl c)
-  answer_stays bytes (Err r) (inr (inr h)) = inr (inr (record { tokens = h.tokens; are = h.are; right = refusal_stays bytes h.tokens r h.right }))
+  pub refusal_is : (bytes : List ℕ) (r : ReadRefusal) → IsInputsReading bytes texts (Err r) → IsInputsReading bytes later (Err r)
+  refusal_is bytes r (inl e) = inl e
+  refusal_is bytes r (inr (inl c)) = inr (inl c)
+  refusal_is bytes r (inr (inr h)) = inr (inr (record { tokens = h.tokens; are = h.are; right = tokens_refusal_is bytes h.tokens r h.right }))
+
+-- readings stay right
+module _ (texts later : List (List ℕ)) (grows : Grows texts later) where
+  pub reading_stays : (bytes : List ℕ) (x : Result Inputs ReadRefusal) → IsInputsReading bytes texts x → IsInputsReading bytes later x
+  reading_stays bytes (Ok a) h = record { tokens = h.tokens; are = h.are; right = (h.right.0, h.right.1, inputs_stay texts later grows (inputs_of h.right.0.tree) a.items h.right.2) }
+  reading_stays bytes (Err r) h = refusal_is texts later bytes r h
 
 -- inputs that were read are ground
 module _ (texts : List (List ℕ)) where
@@ -148,10 +158,33 @@ module _ (texts : List (List ℕ)) where
   all_ground (w ∷ ws) [] fed f h = absurd h
   all_ground (w ∷ ws) (x ∷ xs) fed f h = (ground w x fed.0 f.0 h.0, all_ground ws xs fed.1 f.1 h.1)
 
-  pub inputs_ground : (bytes : List ℕ) (is : Inputs) → IsInputsAnswer bytes texts (Ok is) → Each IsGround is.items
+  pub inputs_ground : (bytes : List ℕ) (is : Inputs) → IsInputsReading bytes texts (Ok is) → Each IsGround is.items
   inputs_ground bytes is h =
       let m = h.right.0.tree in
       let ws = inputs_of m in
       let v = variable_left (lexemes bytes h.tokens) in
       let plain = plain_inputs m (none_left (lexemes bytes h.tokens) (no_complaint_at Variable v (right_empty (inputs_bad 0 ws) (complaint_at Variable v) h.right.1))) in
       all_ground ws is.items (inputs_fed m (none_fed bytes h.tokens h.are)) (all_faultless 0 ws plain (left_empty (inputs_bad 0 ws) (complaint_at Variable v) h.right.1)) h.right.2
+
+-- the table behind inputs is one
+pub one_table : (bytes : List ℕ) (old new later : List (List ℕ)) → HasTable bytes old new → HasTable bytes old later → new ≡ later
+one_table bytes old new later h k =
+    let puts = subst (λ ts. PutsTokens bytes ts old later) (same_tokens bytes old k.tokens h.tokens k.are h.are) k.puts in
+    h.puts.table ∙ ap (λ m. with_texts old (inputs_names m)) (one_tree flat flat_is_system Lexeme-set refl h.puts.tree puts.tree) ∙ sym puts.table
+
+pub table_once : (bytes : List ℕ) (old new : List (List ℕ)) → NoneTwice old → HasTable bytes old new → NoneTwice new
+table_once bytes old new once h = subst NoneTwice (sym h.puts.table) (with_texts-once old (inputs_names h.puts.tree) once)
+
+-- what is right by the tables before and behind is right by the one behind
+pub reading_of : (bytes : List ℕ) (old new : List (List ℕ)) (x : Result Inputs ReadRefusal) → IsInputsAnswer bytes old new x → IsInputsReading bytes new x
+reading_of bytes old new (Ok is) h = h.0
+reading_of bytes old new (Err r) h = h
+
+-- behind one old table one answer is right
+pub one_answer : (bytes : List ℕ) (old : List (List ℕ)) → NoneTwice old → (new later : List (List ℕ)) (x y : Result Inputs ReadRefusal) → (x ≡ Err refusal.Memory → ⊥) → (y ≡ Err refusal.Memory → ⊥)
+    → IsInputsAnswer bytes old new x → IsInputsAnswer bytes old later y → IsSame x y
+one_answer bytes old once new later (Ok a) (Ok b) m n h k =
+    one_reading bytes new (table_once bytes old new once h.1) (Ok a) (Ok b) m n h.0 (subst (λ t. IsInputsReading bytes t (Ok b)) (sym (one_table bytes old new later h.1 k.1)) k.0)
+one_answer bytes old once new later (Ok a) (Err s) m n h k = one_reading bytes new (table_once bytes old new once h.1) (Ok a) (Err s) m n h.0 (refusal_is later new bytes s k)
+one_answer bytes old once new later (Err r) (Ok b) m n h k = one_reading bytes later (table_once bytes old later once k.1) (Err r) (Ok b) m n (refusal_is new later bytes r h) k.0
+one_answer bytes old once new later (Err r) (Err s) m n h k = one_reading bytes old once (Err r) (Err s) m n (refusal_is new old bytes r h) (refusal_is later old bytes s k)

@@ -5,6 +5,7 @@ pub mod RawLemmas
 pub mod BagLemmas
 pub mod Plain
 pub mod Naming
+pub mod TableLemmas
 pub mod Rows
 pub mod Finish
 pub mod FileLemmas

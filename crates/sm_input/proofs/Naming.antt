@@ -105,7 +105,7 @@ named_more texts number [] r (y ∷ ys) x h k = absurd h
 named_more texts number (s ∷ rs) r [] x h k = absurd h
 named_more texts number (s ∷ rs) r (y ∷ ys) x h k = (h.0, named_more texts (suc number) rs r ys x h.1 (subst (λ n. IsNamedLiteral texts n r x) (let e : number + suc (length rs) ≡ suc number + length rs = omega arith in e) k))
 
-named_length : (texts : List (List ℕ)) (number : ℕ) (rs : List RawLiteral) (xs : List Literal) → AreNamed texts number rs xs → length xs ≡ length rs
+pub named_length : (texts : List (List ℕ)) (number : ℕ) (rs : List RawLiteral) (xs : List Literal) → AreNamed texts number rs xs → length xs ≡ length rs
 named_length texts number [] [] h = refl
 named_length texts number [] (x ∷ xs) h = absurd h
 named_length texts number (r ∷ rs) [] h = absurd h

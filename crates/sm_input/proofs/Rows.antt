@@ -17,7 +17,8 @@ use Rattle.sm_input.specs.declared.input.Input.{Input}
 use Rattle.sm_input.specs.Complaints.{input_bad, inputs_bad}
 use Rattle.sm_input.specs.Grammars.{WrittenInput, input_text, input_of, inputs_text, inputs_of}
 use Rattle.sm_input.specs.Inputs.{IsInput}
-use Rattle.sm_input.specs.Reading.{Apart, IsFaultless, AreFaultless}
+use Rattle.sm_input.specs.Reading.{Apart, IsFaultless, AreFaultless, PutsInput, PutsInputs}
+use Rattle.sm_input.proofs.TableLemmas.{no_inputs, inputs_more}
 
 pub bad-push : (number : ℕ) (ws : List WrittenInput) (w : WrittenInput) → inputs_bad number (ws ++ w ∷ []) ≡ inputs_bad number ws ++ input_bad (number + length ws) w
 bad-push number [] w = append-nil (input_bad number w) ∙ ap (λ n. input_bad n w) (let e : number ≡ number + 0 = omega arith in e)
@@ -30,15 +31,16 @@ pub record AreRead (ts : List Lexeme) (old : List (List ℕ)) (b : Option Compla
   pub rounds : Rounds flat input_text ts now
   pub are : Apart new (λ texts. (c ≡ all_noted b (inputs_bad 0 (round_items (λ ts rest m. input_of m) rounds))) × AreFaultless texts (round_items (λ ts rest m. input_of m) rounds) row)
   pub passes : PassesTexts old new ts now
+  pub table : Apart new (λ texts. PutsInputs old new ts now)
 
 pub none_read : (ts : List Lexeme) (old : List (List ℕ)) (b : Option Complaint) (row : List Input) → row ≡ [] → AreRead ts old b ts old row b
-none_read ts old b row e = record { rounds = start; are = λ later grows apart. (refl, subst (AreFaultless later []) (sym e) tt); passes = texts_stay }
+none_read ts old b row e = record { rounds = start; are = λ later grows apart. (refl, subst (AreFaultless later []) (sym e) tt); passes = texts_stay; table = λ later grows apart. no_inputs }
 
 pub read_more : (ts : List Lexeme) (old : List (List ℕ)) (b : Option Complaint) (now : List Lexeme) (new : List (List ℕ)) (row : List Input) (c : Option Complaint) (rest : List Lexeme) (next : List (List ℕ)) (x : Input) (more : List Input) (d : Option Complaint) (number : ℕ)
     → AreRead ts old b now new row c → begins flat input_text now ≡ true → (r : Runs flat input_text now (took rest)) → PassesTexts new next now rest → number ≡ length row
-    → Apart next (λ texts. (d ≡ all_noted c (input_bad number (input_of (tree_of r)))) × (IsFaultless (input_of (tree_of r)) → IsInput texts (input_of (tree_of r)) x)) → more ≡ row ++ x ∷ []
+    → Apart next (λ texts. (d ≡ all_noted c (input_bad number (input_of (tree_of r)))) × (IsFaultless (input_of (tree_of r)) → IsInput texts (input_of (tree_of r)) x)) → Apart next (λ texts. PutsInput new next now rest) → more ≡ row ++ x ∷ []
     → AreRead ts old b rest next more d
-read_more ts old b now new row c rest next x more d number on begun r passes is one e =
+read_more ts old b now new row c rest next x more d number on begun r passes is one puts e =
     let ws = round_items (λ ts rest m. input_of m) on.rounds in
     let w = input_of (tree_of r) in
     record {
@@ -52,6 +54,7 @@ read_more ts old b now new row c rest next x more d number on begun r passes is 
             subst (AreFaultless later (ws ++ w ∷ [])) (sym e) (all_zipped_more R ws row w x h.1 k.1),
           );
       passes = texts_then on.passes passes;
+      table = λ later grows apart. inputs_more (on.table later (Grows-trans new next later passes.grows grows) apart) (puts later grows apart);
     }
 
 pub all_read : (ts : List Lexeme) (old : List (List ℕ)) (b : Option Complaint) (now : List Lexeme) (new : List (List ℕ)) (row : List Input) (c : Option Complaint)

@@ -15,6 +15,10 @@ use Rattle.sm_input.specs.declared.input.Input.{Input}
 use Rattle.sm_input.specs.Grammars.{inputs_text, inputs_of}
 use Rattle.sm_input.specs.Complaints.{file_bad}
 use Rattle.sm_input.specs.Inputs.{AreInputs}
+use Rattle.sm_input.specs.Tables.{inputs_names}
+use Rattle.gr_grammar.specs.Grammars.{IsText}
+use Rattle.gr_symbols.specs.Numbers.{with_texts}
+use Rattle.gr_reader.specs.Lexemes.{lexemes}
 
 -- inputs as a file has them, in its order
 abbrev pub Inputs : Type 0
@@ -30,10 +34,26 @@ pub record IsRead (bytes : List ℕ) (texts : List (List ℕ)) (answer : Result 
   pub are : AreTokens bytes tokens
   pub right : IsTokensAnswer bytes tokens texts answer
 
--- the right answer for bytes, by the texts' numbers behind the reading: it is right for their tokens, or they have none for this reason; a refusal may also be for want of memory
-abbrev pub IsInputsAnswer : List ℕ → List (List ℕ) → Result Inputs ReadRefusal → Type 0
-IsInputsAnswer bytes texts (Ok is) = IsRead bytes texts (Ok is)
-IsInputsAnswer bytes texts (Err refusal) = (refusal ≡ Memory) ⊎ (IsRefused bytes refusal ⊎ IsRead bytes texts (Err refusal))
+-- the right answer for bytes by one table of texts: it is right for their tokens, or they have none for this reason; a refusal may also be for want of memory
+abbrev pub IsInputsReading : List ℕ → List (List ℕ) → Result Inputs ReadRefusal → Type 0
+IsInputsReading bytes texts (Ok is) = IsRead bytes texts (Ok is)
+IsInputsReading bytes texts (Err refusal) = (refusal ≡ Memory) ⊎ (IsRefused bytes refusal ⊎ IsRead bytes texts (Err refusal))
+
+-- the tokens are inputs, and the new table is the old one with their names
+pub record PutsTokens (bytes : List ℕ) (tokens : List Token) (old new : List (List ℕ)) : Type 0 where
+  pub tree : IsText flat inputs_text (lexemes bytes tokens)
+  pub table : new ≡ with_texts old (inputs_names tree)
+
+-- the bytes have tokens for which it is so
+pub record HasTable (bytes : List ℕ) (old new : List (List ℕ)) : Type 0 where
+  pub tokens : List Token
+  pub are : AreTokens bytes tokens
+  pub puts : PutsTokens bytes tokens old new
+
+-- the right answer for bytes by the tables before and behind the reading: it is right by the new table, and that is the one behind the inputs. A refusal says nothing of the tables
+abbrev pub IsInputsAnswer : List ℕ → List (List ℕ) → List (List ℕ) → Result Inputs ReadRefusal → Type 0
+IsInputsAnswer bytes old new (Ok is) = IsInputsReading bytes new (Ok is) × HasTable bytes old new
+IsInputsAnswer bytes old new (Err refusal) = IsInputsReading bytes new (Err refusal)
 
 -- the inputs, or the refusal for the first complaint
 abbrev pub judged : List ℕ → List Token → Option Complaint → Inputs → Result Inputs ReadRefusal

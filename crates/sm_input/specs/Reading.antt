@@ -5,7 +5,7 @@ use Rattle.gr_base.specs.Lists.{IsAmong, Each, NoneTwice}
 use Rattle.gr_terms.specs.declared.Term.{Term}
 use Rattle.gr_terms.specs.declared.Term.TheVariants.{Const, Var}
 use Rattle.gr_terms.specs.declared.Literal.{Literal}
-use Rattle.gr_symbols.specs.Numbers.{Names, Grows}
+use Rattle.gr_symbols.specs.Numbers.{Names, Grows, with_texts}
 use Rattle.gr_reader.specs.declared.complaints.Complaint.{Complaint}
 use Rattle.gr_reader.specs.declared.complaints.Fault.TheVariants.{Duplicate, InputLiterals, TooManyInputs}
 use Rattle.gr_feats.specs.declared.gathered.Gathered.{Gathered}
@@ -16,7 +16,11 @@ use Rattle.gr_feats.specs.Numberings.{Numbering, none_met}
 use Rattle.gr_feats.specs.Readings.{IsBag}
 use Rattle.sm_input.specs.declared.raw.RawLiteral.{RawLiteral}
 use Rattle.sm_input.specs.declared.raw.RawInput.{RawInput}
-use Rattle.sm_input.specs.Grammars.{WrittenInput}
+use Rattle.gr_grammar.specs.Grammars.{Matches}
+use Rattle.gr_reader.specs.Classes.{flat}
+use Rattle.gr_reader.specs.Lexemes.{Lexeme}
+use Rattle.sm_input.specs.Grammars.{WrittenInput, input_text, input_of, inputs_text, inputs_of}
+use Rattle.sm_input.specs.Tables.{own_if, input_names, inputs_names}
 use Rattle.sm_input.specs.Firsts.{firsts}
 use Rattle.sm_input.specs.Complaints.{complaint_if, complaint_at, again_left}
 use Rattle.sm_input.specs.declared.input.Input.{Input}
@@ -128,3 +132,18 @@ pub record IsFaultless (w : WrittenInput) : Type 0 where
 -- the inputs that nothing is wrong with are right
 abbrev pub AreFaultless : List (List ℕ) → List WrittenInput → List Input → Type 0
 AreFaultless texts ws xs = AllZip (λ w x. IsFaultless w → IsInput texts w x) ws xs
+
+-- the names of the handles that were left out at these literals, the first of which has this number
+abbrev pub raw_own_names : ℕ → List RawLiteral → List (List ℕ)
+raw_own_names number [] = []
+raw_own_names number (r ∷ rs) = own_if number r.handle ++ raw_own_names (suc number) rs
+
+-- an input begins the lexemes, and where nothing is wrong with it, the new table is the old one with its names
+pub record PutsInput (old new : List (List ℕ)) (ts rest : List Lexeme) : Type 0 where
+  pub tree : Matches flat input_text ts rest
+  pub table : IsFaultless (input_of tree) → new ≡ with_texts old (input_names tree)
+
+-- the same of inputs
+pub record PutsInputs (old new : List (List ℕ)) (ts rest : List Lexeme) : Type 0 where
+  pub tree : Matches flat inputs_text ts rest
+  pub table : Each IsFaultless (inputs_of tree) → new ≡ with_texts old (inputs_names tree)

@@ -4,13 +4,15 @@ ghost use Rattle.std.specs.List.{AllZip};
 ghost use Rattle.gr_reader.specs.Classes.{flat};
 ghost use Rattle.gr_reader.specs.Complaints.{all_noted};
 ghost use Rattle.gr_reader.specs.Parts.{Reads};
-ghost use Rattle.gr_symbols.specs.Numbers.{Grows, Names as Numbered};
+ghost use Rattle.gr_symbols.specs.Numbers.{Grows, Names as Numbered, with_text, with_texts};
 ghost use Rattle.gr_feats.specs.Grammars.{bag_text, bag_of};
 ghost use Rattle.gr_feats.specs.Passing.{Later, PassesTexts};
+ghost use Rattle.gr_feats.specs.Tables.{PutsNames};
 ghost use Rattle.sm_input.specs.Complaints.{input_bad, inputs_bad};
 ghost use Rattle.sm_input.specs.Grammars.{input_text, input_of, inputs_text, inputs_of, perhaps_bag_text, perhaps_bag_of};
 ghost use Rattle.sm_input.specs.Inputs.{IsInput, own_name};
-ghost use Rattle.sm_input.specs.Reading.{Apart, AreFaultless, HasHandle, IsFaultless, IsNamedInput, IsNamedLiteral, AreNamed, IsRawInput, IsStart, raw_bad};
+ghost use Rattle.sm_input.specs.Reading.{Apart, AreFaultless, HasHandle, IsFaultless, IsNamedInput, IsNamedLiteral, AreNamed, IsRawInput, IsStart, PutsInput, PutsInputs, raw_bad, raw_own_names};
+ghost use Rattle.sm_input.specs.Tables.{own_if};
 
 use crate::input::{INPUT_LIMIT, Input, LITERAL_LIMIT};
 use crate::literals::closed_literals;
@@ -36,6 +38,7 @@ fn start_bag(
 ) -> Result<Gathered, Stop>
     ensures reads { Reads flat bag_text (λ ts rest m x. Later symbols.new (λ texts. IsStart texts (bag_of m) x)) reader.old reader.new result }
     ensures passes { PassesTexts symbols.old symbols.new reader.old reader.new }
+    ensures table { OnOk result (PutsNames bag_text symbols.old symbols.new reader.old reader.new) }
 {
     let mut names = Names::new(alloc);
     let inner = bag(alloc, reader, symbols, &mut names)?;
@@ -50,6 +53,7 @@ fn perhaps_bag(
 ) -> Result<Gathered, Stop>
     ensures reads { Reads flat perhaps_bag_text (λ ts rest m x. Later symbols.new (λ texts. IsStart texts (perhaps_bag_of m) x)) reader.old reader.new result }
     ensures passes { PassesTexts symbols.old symbols.new reader.old reader.new }
+    ensures table { OnOk result (PutsNames perhaps_bag_text symbols.old symbols.new reader.old reader.new) }
 {
     if reader.sees(Class::Sign("[")) {
         let inner = start_bag(alloc, reader, symbols)?;
@@ -67,6 +71,7 @@ fn raw_input(
 ) -> Result<RawInput, Stop>
     ensures reads { Reads flat input_text (λ ts rest m x. Apart symbols.new (λ texts. IsRawInput texts (input_of m) x)) reader.old reader.new result }
     ensures passes { PassesTexts symbols.old symbols.new reader.old reader.new }
+    ensures table { OnOk result (PutsNames input_text symbols.old symbols.new reader.old reader.new) }
     ensures spare { IfOk result (λ x. length symbols.new + length reader.new + length x.literals.items ≤ length symbols.old + length reader.old) }
 {
     let left = reader.left();
@@ -108,6 +113,7 @@ fn own_handle(alloc: Global, number: usize, symbols: &mut Symbols) -> Result<Sym
     ensures named { IfOk result (λ sym. Numbered symbols.new sym.0 (own_name number)) }
     ensures grows { Grows symbols.old symbols.new }
     ensures few { length symbols.new ≤ length symbols.old + 1 }
+    ensures table { OnOk result (symbols.new ≡ with_text symbols.old (own_name number)) }
 {
     let mut text = String::new(alloc);
     text.push_str("\n")?;
@@ -125,6 +131,7 @@ fn named_literal(
     ensures named { IfOk result (λ x. IsNamedLiteral symbols.new number raw x) }
     ensures grows { Grows symbols.old symbols.new }
     ensures few { length symbols.new ≤ length symbols.old + 1 }
+    ensures table { OnOk result (symbols.new ≡ with_texts symbols.old (own_if number raw.handle)) }
 {
     let handle = match raw.handle {
         Some(handle) => handle,
@@ -146,6 +153,7 @@ fn named_literals(
     ensures named { IfOk result (λ xs. AreNamed symbols.new 1 row.items xs) }
     ensures grows { Grows symbols.old symbols.new }
     ensures few { length symbols.new ≤ length symbols.old + length row.items }
+    ensures table { OnOk result (symbols.new ≡ with_texts symbols.old (raw_own_names 1 row.items)) }
 {
     let mut literals = Items::new(alloc);
     'rows: for raw in row {
@@ -161,6 +169,7 @@ fn named_input(alloc: Global, raw: RawInput, symbols: &mut Symbols) -> Result<In
     ensures named { IfOk result (λ i. IsNamedInput symbols.new raw i) }
     ensures grows { Grows symbols.old symbols.new }
     ensures few { length symbols.new ≤ length symbols.old + length raw.literals.items }
+    ensures table { OnOk result (symbols.new ≡ with_texts symbols.old (raw_own_names 1 raw.literals.items)) }
 {
     let literals = named_literals(alloc, raw.literals, symbols)?;
     Ok(Input {
@@ -180,6 +189,7 @@ fn input(
 ) -> Result<Input, Stop>
     ensures reads { Reads flat input_text (λ ts rest m x. Apart symbols.new (λ texts. (complaints.new ≡ all_noted complaints.old (input_bad number (input_of m))) × (IsFaultless (input_of m) → IsInput texts (input_of m) x))) reader.old reader.new result }
     ensures passes { PassesTexts symbols.old symbols.new reader.old reader.new }
+    ensures table { OnOk result (Apart symbols.new (λ texts. PutsInput symbols.old symbols.new reader.old reader.new)) }
 {
     let raw = raw_input(alloc, reader, symbols)?;
     complain(complaints, number, &raw);
@@ -204,6 +214,7 @@ pub fn inputs(
 ) -> Result<Vec<Input>, Stop>
     ensures reads { Reads flat inputs_text (λ ts rest m x. Apart symbols.new (λ texts. (complaints.new ≡ all_noted complaints.old (inputs_bad 0 (inputs_of m))) × AreFaultless texts (inputs_of m) x.items)) reader.old reader.new result }
     ensures passes { PassesTexts symbols.old symbols.new reader.old reader.new }
+    ensures table { OnOk result (Apart symbols.new (λ texts. PutsInputs symbols.old symbols.new reader.old reader.new)) }
 {
     let mut row = Vec::new(alloc);
     'row: while reader.sees(Class::Keyword("input")) {

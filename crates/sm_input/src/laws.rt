@@ -9,7 +9,7 @@ ghost use Rattle.gr_tokens.specs.declared.Token.{Token};
 ghost use Rattle.gr_reader.specs.Classes.{kind_number};
 ghost use Rattle.gr_reader.specs.Lexemes.{lexemes};
 ghost use Rattle.gr_feats.specs.Grammars.{WrittenLiteral};
-ghost use Rattle.sm_input.specs.Answers.{Inputs, IsInputsAnswer, IsSame};
+ghost use Rattle.sm_input.specs.Answers.{Inputs, IsInputsAnswer, IsInputsReading, IsSame};
 ghost use Rattle.sm_input.specs.Firsts.{firsts, same_literal};
 ghost use Rattle.sm_input.specs.Inputs.{IsGround, own_name};
 
@@ -22,24 +22,39 @@ pub fn literals_count_once()
     ensures all { (ws : List WrittenLiteral) (w : WrittenLiteral) → IsAmong ws w → IsAmong (firsts [] ws) w }
 {}
 
-/// For a text and a table in which no text stands twice, one answer besides want of memory is right.
+/// Behind one table in which no text stands twice, one answer besides want of memory is right for a
+/// text, and one new table where it is inputs. In the new table no text stands twice.
 pub fn one_answer()
-    ensures { (bytes : List ℕ) (texts : List (List ℕ)) → NoneTwice texts
+    ensures answer { (bytes : List ℕ) (old : List (List ℕ)) → NoneTwice old
+        → (new later : List (List ℕ)) (x y : Result Inputs ReadRefusal) → (x ≡ Err Memory → ⊥) → (y ≡ Err Memory → ⊥)
+        → IsInputsAnswer bytes old new x → IsInputsAnswer bytes old later y → IsSame x y }
+    ensures table { (bytes : List ℕ) (old new later : List (List ℕ)) (is js : Inputs)
+        → IsInputsAnswer bytes old new (Ok is) → IsInputsAnswer bytes old later (Ok js) → new ≡ later }
+    ensures once { (bytes : List ℕ) (old new : List (List ℕ)) (is : Inputs) → NoneTwice old
+        → IsInputsAnswer bytes old new (Ok is) → NoneTwice new }
+{}
+
+/// By one table of texts, one answer besides want of memory is right. An answer that is right by the
+/// tables before and behind the reading is right by the one behind it.
+pub fn one_reading()
+    ensures one { (bytes : List ℕ) (texts : List (List ℕ)) → NoneTwice texts
         → (x y : Result Inputs ReadRefusal) → (x ≡ Err Memory → ⊥) → (y ≡ Err Memory → ⊥)
-        → IsInputsAnswer bytes texts x → IsInputsAnswer bytes texts y → IsSame x y }
+        → IsInputsReading bytes texts x → IsInputsReading bytes texts y → IsSame x y }
+    ensures behind { (bytes : List ℕ) (old new : List (List ℕ)) (x : Result Inputs ReadRefusal)
+        → IsInputsAnswer bytes old new x → IsInputsReading bytes new x }
 {}
 
 /// What was right stays right as the table of texts grows.
 pub fn answers_stay()
     ensures { (texts later : List (List ℕ)) → Grows texts later
         → (bytes : List ℕ) (x : Result Inputs ReadRefusal)
-        → IsInputsAnswer bytes texts x → IsInputsAnswer bytes later x }
+        → IsInputsReading bytes texts x → IsInputsReading bytes later x }
 {}
 
 /// No variable stands in an input that was read, and its literals are different, at most 24.
 pub fn inputs_are_ground()
     ensures { (bytes : List ℕ) (texts : List (List ℕ)) (inputs : Inputs)
-        → IsInputsAnswer bytes texts (Ok inputs) → Each IsGround inputs.items }
+        → IsInputsReading bytes texts (Ok inputs) → Each IsGround inputs.items }
 {}
 
 /// No word, string or variable of a file is the name of a handle that was left out.

@@ -1,5 +1,5 @@
 //! Reads the literals of an input as they are written.
-ghost use Rattle.std.specs.Prelude.{◌≡◌, ◌+◌, ◌≤◌, ◌||◌, length, IfOk};
+ghost use Rattle.std.specs.Prelude.{◌≡◌, ◌+◌, ◌≤◌, ◌||◌, length, IfOk, OnOk};
 ghost use Rattle.std.specs.List.{AllZip};
 ghost use Rattle.gr_grammar.specs.Grammars.{alt, nil};
 ghost use Rattle.gr_reader.specs.Classes.{class_of, flat, sees, any_name, variable};
@@ -7,6 +7,7 @@ ghost use Rattle.gr_reader.specs.Parts.{Reads};
 ghost use Rattle.gr_feats.specs.Grammars.{term_text, term_of, next_arg_text, next_arg_of, args_text, args_of, perhaps_args_of, colon_text, behind_colon_of, second_of, literal_text, literal_of, next_literal_text, next_literal_of, row_text, row_of, literals_text, literals_of, closed_literals_text, closed_literals_of};
 ghost use Rattle.gr_feats.specs.Passing.{Later, PassesTexts};
 ghost use Rattle.gr_feats.specs.Sides.{IsSide, IsPerhapsSide};
+ghost use Rattle.gr_feats.specs.Tables.{PutsNames};
 ghost use Rattle.sm_input.specs.Reading.{Apart, IsRawTerm, IsRawLiteral, AreKept, raw_term, raw_literal};
 
 use crate::kept::keep;
@@ -65,6 +66,7 @@ fn sees_or_term(reader: &Reader<'_>, class: Class<'_>) -> bool
 fn term(reader: &mut Reader<'_>, symbols: &mut Symbols) -> Result<Term, Stop>
     ensures reads { Reads flat term_text (λ ts rest m x. Later symbols.new (λ texts. IsRawTerm texts (term_of m) x)) reader.old reader.new result }
     ensures passes { PassesTexts symbols.old symbols.new reader.old reader.new }
+    ensures table { OnOk result (PutsNames term_text symbols.old symbols.new reader.old reader.new) }
 {
     let side = read_side(reader, symbols)?;
     Ok(raw_term(side))
@@ -74,6 +76,7 @@ fn term(reader: &mut Reader<'_>, symbols: &mut Symbols) -> Result<Term, Stop>
 fn next_arg(reader: &mut Reader<'_>, symbols: &mut Symbols) -> Result<Term, Stop>
     ensures reads { Reads flat next_arg_text (λ ts rest m x. Later symbols.new (λ texts. IsRawTerm texts (next_arg_of m) x)) reader.old reader.new result }
     ensures passes { PassesTexts symbols.old symbols.new reader.old reader.new }
+    ensures table { OnOk result (PutsNames next_arg_text symbols.old symbols.new reader.old reader.new) }
 {
     let _comma = reader.skip(Class::Sign(","));
     let next = term(reader, symbols)?;
@@ -84,6 +87,7 @@ fn next_arg(reader: &mut Reader<'_>, symbols: &mut Symbols) -> Result<Term, Stop
 fn args(alloc: Global, reader: &mut Reader<'_>, symbols: &mut Symbols) -> Result<Terms, Stop>
     ensures reads { Reads flat args_text (λ ts rest m x. Later symbols.new (λ texts. AllZip (IsRawTerm texts) (args_of m) x)) reader.old reader.new result }
     ensures passes { PassesTexts symbols.old symbols.new reader.old reader.new }
+    ensures table { OnOk result (PutsNames args_text symbols.old symbols.new reader.old reader.new) }
 {
     let mut row = Items::new(alloc);
     let first = term(reader, symbols)?;
@@ -103,6 +107,7 @@ fn perhaps_args(
 ) -> Result<Terms, Stop>
     ensures reads { Reads flat (alt args_text nil) (λ ts rest m x. Later symbols.new (λ texts. AllZip (IsRawTerm texts) (perhaps_args_of m) x)) reader.old reader.new result }
     ensures passes { PassesTexts symbols.old symbols.new reader.old reader.new }
+    ensures table { OnOk result (PutsNames (alt args_text nil) symbols.old symbols.new reader.old reader.new) }
 {
     if sees_term(reader) {
         let inner = args(alloc, reader, symbols)?;
@@ -116,6 +121,7 @@ fn perhaps_args(
 fn behind_colon(reader: &mut Reader<'_>, symbols: &mut Symbols) -> Result<Side, Stop>
     ensures reads { Reads flat colon_text (λ ts rest m x. Later symbols.new (λ texts. IsSide texts (behind_colon_of m) x)) reader.old reader.new result }
     ensures passes { PassesTexts symbols.old symbols.new reader.old reader.new }
+    ensures table { OnOk result (PutsNames colon_text symbols.old symbols.new reader.old reader.new) }
 {
     let _colon = reader.take(Class::Sign(":"))?;
     let pred = read_side(reader, symbols)?;
@@ -126,6 +132,7 @@ fn behind_colon(reader: &mut Reader<'_>, symbols: &mut Symbols) -> Result<Side, 
 fn second(reader: &mut Reader<'_>, symbols: &mut Symbols) -> Result<Option<Side>, Stop>
     ensures reads { Reads flat (alt colon_text nil) (λ ts rest m x. Later symbols.new (λ texts. IsPerhapsSide texts (second_of m) x)) reader.old reader.new result }
     ensures passes { PassesTexts symbols.old symbols.new reader.old reader.new }
+    ensures table { OnOk result (PutsNames (alt colon_text nil) symbols.old symbols.new reader.old reader.new) }
 {
     if reader.sees(Class::Sign(":")) {
         let pred = behind_colon(reader, symbols)?;
@@ -143,6 +150,7 @@ fn literal(
 ) -> Result<RawLiteral, Stop>
     ensures reads { Reads flat literal_text (λ ts rest m x. Later symbols.new (λ texts. IsRawLiteral texts (literal_of m) x)) reader.old reader.new result }
     ensures passes { PassesTexts symbols.old symbols.new reader.old reader.new }
+    ensures table { OnOk result (PutsNames literal_text symbols.old symbols.new reader.old reader.new) }
     ensures spare { IfOk result (λ x. length symbols.new + length reader.new + 1 ≤ length symbols.old + length reader.old) }
 {
     let first = read_side(reader, symbols)?;
@@ -161,6 +169,7 @@ fn next_literal(
 ) -> Result<RawLiteral, Stop>
     ensures reads { Reads flat next_literal_text (λ ts rest m x. Later symbols.new (λ texts. IsRawLiteral texts (next_literal_of m) x)) reader.old reader.new result }
     ensures passes { PassesTexts symbols.old symbols.new reader.old reader.new }
+    ensures table { OnOk result (PutsNames next_literal_text symbols.old symbols.new reader.old reader.new) }
     ensures spare { IfOk result (λ x. length symbols.new + length reader.new + 1 ≤ length symbols.old + length reader.old) }
 {
     let _semicolon = reader.skip(Class::Sign(";"));
@@ -176,6 +185,7 @@ fn row(
 ) -> Result<Vec<RawLiteral>, Stop>
     ensures reads { Reads flat row_text (λ ts rest m x. Apart symbols.new (λ texts. AreKept texts (row_of m) x.items)) reader.old reader.new result }
     ensures passes { PassesTexts symbols.old symbols.new reader.old reader.new }
+    ensures table { OnOk result (PutsNames row_text symbols.old symbols.new reader.old reader.new) }
     ensures spare { IfOk result (λ x. length symbols.new + length reader.new + length x.items ≤ length symbols.old + length reader.old) }
 {
     let mut row = Vec::new(alloc);
@@ -196,6 +206,7 @@ fn literals(
 ) -> Result<Vec<RawLiteral>, Stop>
     ensures reads { Reads flat literals_text (λ ts rest m x. Apart symbols.new (λ texts. AreKept texts (literals_of m) x.items)) reader.old reader.new result }
     ensures passes { PassesTexts symbols.old symbols.new reader.old reader.new }
+    ensures table { OnOk result (PutsNames literals_text symbols.old symbols.new reader.old reader.new) }
     ensures spare { IfOk result (λ x. length symbols.new + length reader.new + length x.items ≤ length symbols.old + length reader.old) }
 {
     if sees_term(reader) {
@@ -215,6 +226,7 @@ pub fn closed_literals(
 ) -> Result<Vec<RawLiteral>, Stop>
     ensures reads { Reads flat closed_literals_text (λ ts rest m x. Apart symbols.new (λ texts. AreKept texts (closed_literals_of m) x.items)) reader.old reader.new result }
     ensures passes { PassesTexts symbols.old symbols.new reader.old reader.new }
+    ensures table { OnOk result (PutsNames closed_literals_text symbols.old symbols.new reader.old reader.new) }
     ensures spare { IfOk result (λ x. length symbols.new + length reader.new + length x.items ≤ length symbols.old + length reader.old) }
 {
     let inner = literals(alloc, reader, symbols)?;

@@ -1,12 +1,12 @@
 //! Reads a file of inputs from its bytes.
-ghost use Rattle.std.specs.Prelude.{◌≡◌, ◌+◌, ◌≤◌, ℕ, List, length};
+ghost use Rattle.std.specs.Prelude.{◌≡◌, ◌+◌, ◌≤◌, ℕ, List, length, OnOk};
 ghost use Rattle.gr_base.specs.Lists.{NoneTwice};
 ghost use Rattle.gr_symbols.specs.Numbers.{Grows};
 ghost use Rattle.gr_tokens.specs.Answers.{AreTokens};
 ghost use Rattle.gr_reader.specs.Complaints.{noted};
 ghost use Rattle.gr_reader.specs.Classes.{test, variable};
 ghost use Rattle.gr_reader.specs.Lexemes.{lexeme_of, lexemes};
-ghost use Rattle.sm_input.specs.Answers.{IsInputsAnswer, IsTokensAnswer, judged, noted_at};
+ghost use Rattle.sm_input.specs.Answers.{IsInputsAnswer, IsTokensAnswer, PutsTokens, judged, noted_at};
 ghost use Rattle.sm_input.specs.Complaints.{variable_left};
 
 use crate::input::Input;
@@ -83,6 +83,7 @@ fn read_tokens(
     requires bytes { length bytes.now ≤ 1048576 }
     requires tokens { AreTokens bytes.now tokens.now }
     ensures answer { IsTokensAnswer bytes.now tokens.now symbols.new result }
+    ensures table { OnOk result (PutsTokens bytes.now tokens.now symbols.old symbols.new) }
     ensures grows { Grows symbols.old symbols.new }
     ensures few { length symbols.new ≤ length symbols.old + length tokens.now }
 {
@@ -104,8 +105,9 @@ fn read_tokens(
 }
 
 /// The inputs that the bytes spell, at most 1,048,576 of them, in the order of the text. Names are
-/// numbers of the table, which keeps all of its texts and gets at most as many new ones as there are
-/// bytes, also where the text is refused.
+/// numbers of the table. It keeps all of its texts and gets, for one input after another, the names
+/// and variables as they stand in it and then the names of the handles that were left out, and nothing
+/// more; where the text is refused, at most as many as there are bytes.
 ///
 /// Literals of an input that are equal as they are written count once, at the first place; a handle
 /// that is left out is equal to another one that is left out. Then they are numbered from 1, and a
@@ -125,7 +127,7 @@ pub fn read_inputs(
     symbols: &mut Symbols,
 ) -> Result<Vec<Input>, ReadRefusal>
     requires { length bytes.now ≤ 1048576 }
-    ensures answer { IsInputsAnswer bytes.now symbols.new result }
+    ensures answer { IsInputsAnswer bytes.now symbols.old symbols.new result }
     ensures grows { Grows symbols.old symbols.new }
     ensures few { length symbols.new ≤ length symbols.old + length bytes.now }
 {

@@ -4,6 +4,8 @@ use Rattle.gr_reader.specs.Complaints.{all_noted}
 use Rattle.gr_reader.specs.declared.reader.Stop.TheVariants.{Memory as NoMemory}
 use Rattle.gr_reader.proofs.Steps.{memory_stops}
 use Rattle.sm_input.proofs.Naming.{input_right, bad_right, grown_input}
+use Rattle.gr_grammar.specs.Grammars.{tree_of}
+use Rattle.sm_input.proofs.TableLemmas.{puts_input}
 use Rattle.sm_input.proofs.inputs.input.Goals as goal
 
 pub returns-in_err-raw-clause-reads : goal.returns-in_err-raw-clause-reads
@@ -35,3 +37,8 @@ returns-clause-reads c = (
       let h = c.in_ok-raw.ensures.reads.1 later (Grows-trans _ _ later c.named_input.ensures.grows grows) apart in
       (c.complain.ensures ∙ ap (all_noted _) (bad_right later apart _ _ _ h), λ f. input_right later apart _ _ _ h (grown_input _ later grows _ _ c.in_ok-input.ensures.named) f),
 )
+
+pub returns-clause-table : goal.returns-clause-table
+returns-clause-table c = λ later grows apart.
+    let h = c.in_ok-raw.ensures.reads.1 later (Grows-trans _ _ later c.named_input.ensures.grows grows) apart in
+    puts_input later _ _ _ _ _ (tree_of c.in_ok-raw.ensures.reads.0) _ h c.in_ok-raw.ensures.table c.in_ok-input.ensures.table

@@ -37,7 +37,7 @@ row-smaller c = shorter refl c.in_ok-next.ensures.reads.0
 pub row-preserved : goal.row-preserved
 row-preserved c =
     let b : begins flat input_text c.row.reader ≡ true = begins_token (keyword (codes "input")) c.row.reader c.sees.ensures c.row-test.true in
-    read_more _ _ _ _ _ _ _ _ _ _ _ _ _ c.row.invariant b c.in_ok-next.ensures.reads.0 c.in_ok-next.ensures.passes (ap length c.as_slice.ensures.value) c.in_ok-next.ensures.reads.1 c.in_ok-_next.ensures
+    read_more _ _ _ _ _ _ _ _ _ _ _ _ _ c.row.invariant b c.in_ok-next.ensures.reads.0 c.in_ok-next.ensures.passes (ap length c.as_slice.ensures.value) c.in_ok-next.ensures.reads.1 c.in_ok-next.ensures.table c.in_ok-_next.ensures
 
 pub returns-clause-reads : goal.returns-clause-reads
 returns-clause-reads c =
@@ -46,3 +46,6 @@ returns-clause-reads c =
 
 pub returns-clause-passes : goal.returns-clause-passes
 returns-clause-passes c = c.row.invariant.passes
+
+pub returns-clause-table : goal.returns-clause-table
+returns-clause-table c = c.row.invariant.table

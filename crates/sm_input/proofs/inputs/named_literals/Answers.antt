@@ -1,12 +1,14 @@
 use Rattle.std.proofs.Common.{◌≡◌, ◌∷◌, [], ◌+◌, length, refl, sym, ap, subst, ◌∙◌, append_assoc, append-nil, arith, length-append, rules}
 use Rattle.std.specs.Vec.Iter.{into_iter_items}
 use Rattle.gr_symbols.proofs.NumberLemmas.{Grows-refl, Grows-trans}
-use Rattle.sm_input.specs.Reading.{AreNamed}
+use Rattle.sm_input.specs.Reading.{AreNamed, raw_own_names}
 use Rattle.sm_input.proofs.Naming.{named_none, named_step, nothing_left}
+use Rattle.gr_symbols.specs.Numbers.{with_texts}
+use Rattle.sm_input.proofs.TableLemmas.{own_step}
 use Rattle.sm_input.proofs.inputs.named_literals.Goals as goal
 
 pub rows-init : goal.rows-init
-rows-init c = (refl, named_none c.args.symbols.now 1 _ c.new-literals.ensures, Grows-refl _, omega arith, search rules)
+rows-init c = (refl, named_none c.args.symbols.now 1 _ c.new-literals.ensures, Grows-refl _, omega arith, search rules, refl)
 
 pub rows-preserved : goal.rows-preserved
 rows-preserved c =
@@ -24,6 +26,7 @@ rows-preserved c =
           let gone = c.in-Some.ensures.steps.1 in
           let short = ap length steps in
           omega arith,
+      own_step _ _ _ at.symbols at.yielded x at.literals _ at.invariant.1 (omega (arith, c.len-number.ensures)) at.invariant.5 c.in_ok-literal.ensures.table,
     )
 
 pub returns-in_err-literal-clause-grows : goal.returns-in_err-literal-clause-grows
@@ -67,3 +70,11 @@ returns-clause-few c =
     let parts = length-append at.yielded (into_iter_items at.raw-iterator) in
     let few = at.invariant.3 in
     omega (arith, whole, parts, few)
+
+pub returns-clause-table : goal.returns-clause-table
+returns-clause-table c =
+    let at = c.rows in
+    let none = c.in-None.ensures.steps in
+    let empty : into_iter_items at.raw-iterator ≡ [] = nothing_left _ (sym at.invariant.4 ∙ none.0) in
+    let all = sym (append-nil at.yielded) ∙ rw empty at at.invariant.0 ∙ c.into_iter-raw-iterator.ensures.into_iter_gives.0 in
+    subst (λ rs. at.symbols ≡ with_texts c.args.symbols.now (raw_own_names 1 rs)) all at.invariant.5

@@ -6,6 +6,7 @@ use Rattle.gr_reader.proofs.Steps.{left_stops}
 use Rattle.gr_feats.specs.Grammars.{bag_text}
 use Rattle.gr_feats.specs.Numberings.{none_met}
 use Rattle.gr_feats.proofs.ReadingLemmas.{begins_token, IsBag-none}
+use Rattle.gr_feats.proofs.TableLemmas.{puts_left, puts_nothing}
 use Rattle.sm_input.proofs.inputs.perhaps_bag.Goals as goal
 
 pub returns-in_err-inner-clause-reads : goal.returns-in_err-inner-clause-reads
@@ -23,3 +24,9 @@ pub returns-else-sees-clause-reads : goal.returns-else-sees-clause-reads
 returns-else-sees-clause-reads c =
     let b : begins flat bag_text c.args.reader.now ≡ false = begins_token (sign (codes "[")) c.args.reader.now c.sees.ensures c.if-sees.false in
     (run_right b take_nothing, λ later grows. (none_met, IsBag-none later none_met _ c.new.ensures))
+
+pub returns-in_ok-inner-clause-table : goal.returns-in_ok-inner-clause-table
+returns-in_ok-inner-clause-table c = puts_left c.in_ok-inner.ensures.table
+
+pub returns-else-sees-clause-table : goal.returns-else-sees-clause-table
+returns-else-sees-clause-table c = puts_nothing

@@ -1,7 +1,8 @@
-use Rattle.std.proofs.Common.{◌≡◌, Err, rules, ap, length, arith}
+use Rattle.std.proofs.Common.{◌≡◌, Err, rules, ap, length, arith, refl}
 use Rattle.gr_symbols.proofs.NumberLemmas.{Grows-trans}
 use Rattle.gr_grammar.specs.Grammars.{run_both}
 use Rattle.gr_reader.proofs.Steps.{first_stops, then_stops, token_run, token_stops}
+use Rattle.gr_feats.proofs.TableLemmas.{puts_both, puts_closed}
 use Rattle.sm_input.proofs.inputs.raw_input.Goals as goal
 
 pub returns-in_err-_word-clause-reads : goal.returns-in_err-_word-clause-reads
@@ -53,3 +54,6 @@ returns-clause-spare c =
     let o = ap length c.in_ok-_open.ensures.took.split in
     let l = c.in_ok-literals.ensures.spare in
     omega (arith, a, b, d, o, l)
+
+pub returns-clause-table : goal.returns-clause-table
+returns-clause-table c = puts_both (puts_closed refl c.in_ok-_word.ensures.took) (puts_both (c.in_ok-name.ensures.table refl) (puts_both c.in_ok-start.ensures.table (puts_both (puts_closed refl c.in_ok-_open.ensures.took) c.in_ok-literals.ensures.table)))

@@ -9,3 +9,6 @@ returns-in_err-inner-clause-reads c =
 
 pub returns-clause-reads : goal.returns-clause-reads
 returns-clause-reads c = (c.in_ok-inner.ensures.reads.0, λ later g. as_start later _ _ _ _ c.new-names.ensures (c.in_ok-inner.ensures.reads.1 later g))
+
+pub returns-clause-table : goal.returns-clause-table
+returns-clause-table c = c.in_ok-inner.ensures.table

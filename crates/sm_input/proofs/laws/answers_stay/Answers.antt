@@ -1,5 +1,5 @@
-use Rattle.sm_input.proofs.LawLemmas.{answer_stays}
+use Rattle.sm_input.proofs.LawLemmas.{reading_stays}
 use Rattle.sm_input.proofs.laws.answers_stay.Goals as goal
 
 pub returns : goal.returns
-returns c = λ texts later grows bytes x h. answer_stays texts later grows bytes x h
+returns c = λ texts later grows bytes x h. reading_stays texts later grows bytes x h

@@ -13,6 +13,7 @@ use Rattle.gr_feats.proofs.PassingLemmas.{pass_texts, texts_then}
 use Rattle.sm_input.specs.Reading.{IsRawTerm}
 use Rattle.sm_input.proofs.RawLemmas.{zip_more, zip_first}
 use Rattle.gr_feats.proofs.ReadingLemmas.{begins_next, shorter, ReadsOn-start, ReadsOn-more, ReadsOn-end}
+use Rattle.gr_feats.proofs.TableLemmas.{puts_both}
 use Rattle.sm_input.proofs.literals.args.Goals as goal
 
 pub returns-in_err-first-clause-reads : goal.returns-in_err-first-clause-reads
@@ -46,7 +47,7 @@ pub row-preserved : goal.row-preserved
 row-preserved c =
     let b : begins flat next_arg_text c.row.reader ≡ true = begins_next (sign (codes ",")) c.row.reader c.sees_or_term.ensures c.row-test.true in
     ReadsOn-more next_arg_text (λ ts rest m. next_arg_of m) (λ texts ws x. AllZip (IsRawTerm texts) ws x.0) _ _ _ _ _ _ _ _ _
-    c.row.invariant b c.in_ok-next.ensures.reads.0 (pass_texts c.in_ok-next.ensures.passes)
+    c.row.invariant b c.in_ok-next.ensures.reads.0 (pass_texts c.in_ok-next.ensures.passes) c.in_ok-next.ensures.table
     (λ ws later grows h. zip_more (IsRawTerm later) ws _ _ _ _ h (c.in_ok-next.ensures.reads.1 later grows) c.in_ok-_next.ensures.ok)
 
 pub returns-clause-reads : goal.returns-clause-reads
@@ -66,3 +67,6 @@ returns-in_err-next-clause-passes c = texts_then c.in_ok-first.ensures.passes (t
 
 pub returns-in_err-_next-clause-passes : goal.returns-in_err-_next-clause-passes
 returns-in_err-_next-clause-passes c = texts_then c.in_ok-first.ensures.passes (texts_then c.row.invariant.passes.texts c.in_ok-next.ensures.passes)
+
+pub returns-clause-table : goal.returns-clause-table
+returns-clause-table c = puts_both c.in_ok-first.ensures.table c.row.invariant.puts

@@ -1,6 +1,7 @@
-use Rattle.std.proofs.Common.{◌≡◌, Err, rules, ap, length, arith}
+use Rattle.std.proofs.Common.{◌≡◌, Err, rules, ap, length, arith, refl}
 use Rattle.gr_grammar.specs.Grammars.{run_both}
 use Rattle.gr_reader.proofs.Steps.{first_stops, then_stops, token_run, token_stops}
+use Rattle.gr_feats.proofs.TableLemmas.{puts_both, puts_closed}
 use Rattle.sm_input.proofs.literals.closed_literals.Goals as goal
 
 pub returns-in_err-inner-clause-reads : goal.returns-in_err-inner-clause-reads
@@ -18,3 +19,6 @@ returns-clause-reads c = (run_both c.in_ok-inner.ensures.reads.0 (token_run c.in
 
 pub returns-clause-spare : goal.returns-clause-spare
 returns-clause-spare c = let a = c.in_ok-inner.ensures.spare in let e = ap length c.in_ok-_close.ensures.took.split in omega (arith, a, e)
+
+pub returns-clause-table : goal.returns-clause-table
+returns-clause-table c = puts_both c.in_ok-inner.ensures.table (puts_closed refl c.in_ok-_close.ensures.took)

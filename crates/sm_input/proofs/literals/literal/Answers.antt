@@ -1,9 +1,10 @@
-use Rattle.std.proofs.Common.{◌≡◌, Err, rules, sym, ap, subst, length, arith}
+use Rattle.std.proofs.Common.{◌≡◌, Err, rules, sym, ap, subst, length, arith, refl}
 use Rattle.gr_symbols.proofs.NumberLemmas.{Grows-trans}
 use Rattle.gr_grammar.specs.Grammars.{run_both}
 use Rattle.gr_reader.proofs.Steps.{first_stops, then_stops, token_run, token_stops}
 use Rattle.sm_input.specs.Reading.{IsRawLiteral}
 use Rattle.sm_input.proofs.RawLemmas.{literal_raw}
+use Rattle.gr_feats.proofs.TableLemmas.{puts_both, puts_closed}
 use Rattle.sm_input.proofs.literals.literal.Goals as goal
 
 pub returns-in_err-first-clause-reads : goal.returns-in_err-first-clause-reads
@@ -51,3 +52,6 @@ returns-clause-spare c =
     let d = c.in_ok-args.ensures.passes.few in
     let e = ap length c.in_ok-_close.ensures.took.split in
     omega (arith, a, b, o, d, e)
+
+pub returns-clause-table : goal.returns-clause-table
+returns-clause-table c = puts_both c.in_ok-first.ensures.table (puts_both c.in_ok-second.ensures.table (puts_both (puts_closed refl c.in_ok-_open.ensures.took) (puts_both c.in_ok-args.ensures.table (puts_closed refl c.in_ok-_close.ensures.took))))

@@ -6,6 +6,7 @@ use Rattle.gr_feats.specs.Grammars.{row_text}
 use Rattle.sm_input.specs.Reading.{IsRawLiteral}
 use Rattle.sm_input.proofs.RawLemmas.{zip_none}
 use Rattle.gr_feats.proofs.ReadingLemmas.{begins_term}
+use Rattle.gr_feats.proofs.TableLemmas.{puts_left, puts_nothing}
 use Rattle.sm_input.proofs.literals.literals.Goals as goal
 
 pub returns-in_err-inner-clause-reads : goal.returns-in_err-inner-clause-reads
@@ -26,3 +27,9 @@ returns-else-sees_term-clause-reads c =
 
 pub returns-else-sees_term-clause-spare : goal.returns-else-sees_term-clause-spare
 returns-else-sees_term-clause-spare c = let n = ap length c.new.ensures.items in omega (arith, n)
+
+pub returns-in_ok-inner-clause-table : goal.returns-in_ok-inner-clause-table
+returns-in_ok-inner-clause-table c = puts_left c.in_ok-inner.ensures.table
+
+pub returns-else-sees_term-clause-table : goal.returns-else-sees_term-clause-table
+returns-else-sees_term-clause-table c = puts_nothing

@@ -1,7 +1,8 @@
-use Rattle.std.proofs.Common.{◌≡◌, Err, rules, arith}
+use Rattle.std.proofs.Common.{◌≡◌, Err, rules, arith, refl}
 use Rattle.gr_grammar.specs.Grammars.{run_both}
 use Rattle.gr_reader.proofs.Steps.{then_stops, skip_run}
 use Rattle.sm_input.proofs.RawLemmas.{skipped}
+use Rattle.gr_feats.proofs.TableLemmas.{puts_both, puts_skip}
 use Rattle.sm_input.proofs.literals.next_literal.Goals as goal
 
 pub returns-in_err-next-clause-reads : goal.returns-in_err-next-clause-reads
@@ -14,3 +15,6 @@ returns-clause-reads c = (run_both (skip_run _ c.skip-semicolon.ensures) c.in_ok
 
 pub returns-clause-spare : goal.returns-clause-spare
 returns-clause-spare c = let a = skipped _ _ _ _ c.skip-semicolon.ensures in let b = c.in_ok-next.ensures.spare in omega (arith, a, b)
+
+pub returns-clause-table : goal.returns-clause-table
+returns-clause-table c = puts_both (puts_skip _ refl c.skip-semicolon.ensures) c.in_ok-next.ensures.table

@@ -6,6 +6,7 @@ use Rattle.gr_feats.specs.Grammars.{args_text}
 use Rattle.sm_input.specs.Reading.{IsRawTerm}
 use Rattle.sm_input.proofs.RawLemmas.{zip_none}
 use Rattle.gr_feats.proofs.ReadingLemmas.{begins_term}
+use Rattle.gr_feats.proofs.TableLemmas.{puts_left, puts_nothing}
 use Rattle.sm_input.proofs.literals.perhaps_args.Goals as goal
 
 pub returns-in_err-inner-clause-reads : goal.returns-in_err-inner-clause-reads
@@ -23,3 +24,9 @@ pub returns-else-sees_term-clause-reads : goal.returns-else-sees_term-clause-rea
 returns-else-sees_term-clause-reads c =
     let b : begins flat args_text c.args.reader.now ≡ false = begins_term c.args.reader.now c.sees_term.ensures c.if-sees_term.false in
     (run_right b take_nothing, λ later grows. zip_none (IsRawTerm later) _ c.new.ensures)
+
+pub returns-in_ok-inner-clause-table : goal.returns-in_ok-inner-clause-table
+returns-in_ok-inner-clause-table c = puts_left c.in_ok-inner.ensures.table
+
+pub returns-else-sees_term-clause-table : goal.returns-else-sees_term-clause-table
+returns-else-sees_term-clause-table c = puts_nothing

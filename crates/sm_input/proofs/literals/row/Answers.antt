@@ -12,6 +12,7 @@ use Rattle.gr_feats.proofs.PassingLemmas.{pass_texts, texts_then}
 use Rattle.gr_feats.proofs.ReadingLemmas.{begins_next, shorter, ReadsOn-start, ReadsOn-more, ReadsOn-end}
 use Rattle.sm_input.specs.Reading.{AreKept}
 use Rattle.sm_input.proofs.KeptLemmas.{keeps_first, keeps_more, no_more_kept}
+use Rattle.gr_feats.proofs.TableLemmas.{puts_both}
 use Rattle.sm_input.proofs.literals.row.Goals as goal
 
 pub returns-in_err-first-clause-reads : goal.returns-in_err-first-clause-reads
@@ -52,7 +53,7 @@ row-preserved c =
     let k = no_more_kept _ _ _ c.in_ok-_next.ensures in
     let n = c.row.invariant.1 in (
       ReadsOn-more next_literal_text (λ ts rest m. next_literal_of m) (λ texts ws x. NoneTwice texts → AreKept texts ws x.0) _ _ _ _ _ _ _ _ _
-          c.row.invariant.0 b c.in_ok-next.ensures.reads.0 (pass_texts c.in_ok-next.ensures.passes)
+          c.row.invariant.0 b c.in_ok-next.ensures.reads.0 (pass_texts c.in_ok-next.ensures.passes) c.in_ok-next.ensures.table
           (λ ws later grows h apart. keeps_more later apart ws _ _ _ _ (h apart) (c.in_ok-next.ensures.reads.1 later grows) c.in_ok-_next.ensures),
       omega (arith, a, k, n),
     )
@@ -77,3 +78,6 @@ returns-in_err-next-clause-passes c = texts_then c.in_ok-first.ensures.passes (t
 
 pub returns-in_err-_next-clause-passes : goal.returns-in_err-_next-clause-passes
 returns-in_err-_next-clause-passes c = texts_then c.in_ok-first.ensures.passes (texts_then c.row.invariant.0.passes.texts c.in_ok-next.ensures.passes)
+
+pub returns-clause-table : goal.returns-clause-table
+returns-clause-table c = puts_both c.in_ok-first.ensures.table c.row.invariant.0.puts

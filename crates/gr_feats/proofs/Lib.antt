@@ -2,6 +2,7 @@ pub mod LoadLemmas
 pub mod MadeLemmas
 pub mod StayLemmas
 pub mod OneAnswer
+pub mod ComplaintLemmas
 pub mod AnswerLemmas
 pub mod ReadingLemmas
 pub mod PassingLemmas

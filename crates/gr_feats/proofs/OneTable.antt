@@ -11,10 +11,21 @@ use Rattle.gr_grammar.specs.Grammars.{Grammar, is_clear, goes}
 use Rattle.gr_reader.specs.Classes.{Class, flat}
 use Rattle.gr_feats.specs.Grammars.{bag_text, closed_literals_text}
 use Rattle.gr_feats.specs.Numberings.{Numbering, IsNumbering}
-use Rattle.gr_feats.specs.Answers.{IsBagAt, AreLiteralsAt, IsTableAt, IsBagAnswer, IsLiteralsAnswer}
+use Rattle.gr_feats.specs.Answers.{IsBagAt, AreLiteralsAt, IsTableAt, IsBagAnswer, IsBagReading, IsLiteralsAnswer, IsLiteralsReading}
 use Rattle.gr_feats.proofs.ReadingLemmas.{bag_is_clear, closed_literals_are_clear}
 use Rattle.gr_feats.proofs.TableLemmas.{one_front_table, puts_once}
 use Rattle.gr_feats.proofs.OneAnswer.{one_bag_at, one_literals_at, one_bag_reading, one_literals_reading}
+
+-- what is right by the tables before and behind is right by the one behind
+pub bag_behind : (bytes : List ℕ) (tokens : List Token) (at : ℕ) (old new : List (List ℕ)) (before after : Numbering) (x : Result (Bag × ℕ × Option Place) ReadRefusal)
+    → IsBagAnswer bytes tokens at old new before after x → IsBagReading bytes tokens at new before after x
+bag_behind bytes tokens at old new before after (Ok x) h = h.0
+bag_behind bytes tokens at old new before after (Err r) h = h
+
+pub literals_behind : (bytes : List ℕ) (tokens : List Token) (at : ℕ) (old new : List (List ℕ)) (before after : Numbering) (x : Result (List Literal × ℕ) ReadRefusal)
+    → IsLiteralsAnswer bytes tokens at old new before after x → IsLiteralsReading bytes tokens at new before after x
+literals_behind bytes tokens at old new before after (Ok x) h = h.0
+literals_behind bytes tokens at old new before after (Err r) h = h
 
 module _ (bytes : List ℕ) (tokens : List Token) (at : ℕ) (old : List (List ℕ)) where
   one_table_at : (g : Grammar Class) → is_clear flat g ≡ true → goes flat g ≡ [] → (new later : List (List ℕ)) → IsTableAt g bytes tokens at old new → IsTableAt g bytes tokens at old later → new ≡ later

@@ -5,5 +5,6 @@ pub mod Grammars
 pub mod Readings
 pub mod Passing
 pub mod Tables
+pub mod Complaints
 pub mod Sides
 pub mod Answers

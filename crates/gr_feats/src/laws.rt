@@ -63,7 +63,8 @@ pub fn one_literals_answer()
 {}
 
 /// By one table of texts, one answer besides want of memory is right for the bag that begins at a
-/// token, and one numbering where there is a bag.
+/// token, and one numbering where there is a bag. What is right by the tables before and behind the
+/// reading is right by the one behind it.
 pub fn one_bag_reading()
     ensures answer { (bytes : List ℕ) (tokens : List Token) (at : ℕ) (texts : List (List ℕ)) → NoneTwice texts
         → (before : Numbering) → IsNumbering before
@@ -74,6 +75,9 @@ pub fn one_bag_reading()
         → (before : Numbering) → IsNumbering before
         → (m n : Numbering) (x y : Bag × ℕ × Option Place)
         → IsBagReading bytes tokens at texts before m (Ok x) → IsBagReading bytes tokens at texts before n (Ok y) → m ≡ n }
+    ensures behind { (bytes : List ℕ) (tokens : List Token) (at : ℕ) (old new : List (List ℕ)) (before after : Numbering)
+        → (x : Result (Bag × ℕ × Option Place) ReadRefusal)
+        → IsBagAnswer bytes tokens at old new before after x → IsBagReading bytes tokens at new before after x }
 {}
 
 /// The same for the literals that begin at a token.
@@ -87,6 +91,9 @@ pub fn one_literals_reading()
         → (before : Numbering) → IsNumbering before
         → (m n : Numbering) (x y : List Literal × ℕ)
         → IsLiteralsReading bytes tokens at texts before m (Ok x) → IsLiteralsReading bytes tokens at texts before n (Ok y) → m ≡ n }
+    ensures behind { (bytes : List ℕ) (tokens : List Token) (at : ℕ) (old new : List (List ℕ)) (before after : Numbering)
+        → (x : Result (List Literal × ℕ) ReadRefusal)
+        → IsLiteralsAnswer bytes tokens at old new before after x → IsLiteralsReading bytes tokens at new before after x }
 {}
 
 /// What was right stays right as the table of texts grows.

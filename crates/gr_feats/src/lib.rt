@@ -18,19 +18,24 @@
 //!   and a numbering: names by the numbers of their texts, variables by first meeting, of an
 //!   attribute that stands twice the first pair, and the next variable for a handle that is left
 //!   out.
-//! - `specs/Answers` says which answer is right for a text, a token and a numbering.
+//! - `specs/Tables` has the table of texts behind what was read: the one before, with the names and
+//!   variables of the text, one after another.
+//! - `specs/Answers` says which answer and which table are right for a text, a token and a numbering,
+//!   and `specs/Complaints` what is wrong with a bag that can be read.
 //! - `specs/Loading` has a bag's pairs as entries of a slot, and `specs/CanonicalBags` the canonical
 //!   bag of a slot in a network.
 //!
 //! # Contract for the layer above
 //!
-//! - `read_bag` and `read_literals` promise the right answer, `IsBagAnswer` and `IsLiteralsAnswer`.
-//!   A part promises a run of its grammar (`Reads`), and its answer for every later table of texts;
-//!   `Passes` says what all parts leave as it was.
+//! - `read_bag` and `read_literals` promise the right answer and the right table, `IsBagAnswer` and
+//!   `IsLiteralsAnswer`. A part promises a run of its grammar (`Reads`), its answer for every later
+//!   table of texts, and the table that it leaves (`PutsNames`); `Passes` says what all parts leave as
+//!   it was.
 //! - `load_bag` answers by agreement of the whole list of assertions, and `canonical_bag` by the
 //!   links of the network.
-//! - [`laws`] has what callers cite: one answer is right, what was right stays right as texts are
-//!   added, variables have numbers that were given, so a bag that was read can be loaded.
+//! - [`laws`] has what callers cite: one answer and one new table are right, what was right stays
+//!   right as texts are added, variables have numbers that were given, so a bag that was read can be
+//!   loaded.
 #![tactic(auto)]
 
 pub mod bags;

@@ -1,5 +1,5 @@
 -- From a run over the tokens of a file to the answer for its bytes.
-use Rattle.std.proofs.Common.{◌≡◌, ℕ, ◌+◌, ◌-◌, ◌<◌, ◌≤◌, List, [], ◌∷◌, ◌++◌, length, true, Option, Some, None, Result, Ok, Err, inr, refl, ap, sym, ◌∙◌, subst, arith}
+use Rattle.std.proofs.Common.{◌≡◌, ℕ, ◌-◌, ◌<◌, ◌≤◌, List, [], ◌∷◌, ◌++◌, length, true, Option, Some, None, Result, Ok, Err, inr, refl, ap, sym, ◌∙◌, subst, arith}
 use Rattle.std.specs.Prelude.{slice_range, OnOk}
 use Rattle.std.proofs.lemmas.List.{length-map, length-append}
 use Rattle.gr_grammar.specs.Grammars.{is_clear, IsFault, Runs, took, failed, tree_of}

@@ -1,6 +1,6 @@
 -- What every entry that was read keeps.
-use Rattle.std.proofs.Common.{◌≡◌, ℕ, ◌≤◌, List, [], ◌∷◌, ◌++◌, map, length, Bool, true, false, Ok, inl, inr, refl, ap, sym, ◌∙◌, subst}
-use Rattle.std.specs.Prelude.{◌≢◌, nat_lt}
+use Rattle.std.proofs.Common.{◌≡◌, ℕ, ◌≤◌, List, [], ◌∷◌, ◌++◌, map, length, false, Ok, inl, inr, refl, ap, sym, ◌∙◌, subst}
+use Rattle.std.specs.Prelude.{nat_lt}
 use Rattle.std.specs.List.{AllZip}
 use Rattle.std.proofs.lemmas.Bool.{true≢false, lt-ltb, cases_lt, cases_Bool}
 use Rattle.std.proofs.lemmas.List.{map-append}
@@ -10,15 +10,15 @@ use Rattle.gr_terms.specs.declared.Sym.{Sym}
 use Rattle.gr_symbols.specs.Numbers.{Names}
 use Rattle.gr_symbols.proofs.NumberLemmas.{one_text}
 use Rattle.gr_reader.specs.Classes.{is_one_of}
-use Rattle.gr_reader.specs.declared.complaints.Fault.{Fault}
 use Rattle.gr_reader.specs.declared.complaints.Fault.TheVariants.{Duplicate, EmptyWord, EntryLiterals}
 use Rattle.gr_feats.specs.Readings.{IsLiteral}
 use Rattle.lx_lexicon.specs.declared.entry.Entry.{Entry}
 use Rattle.lx_lexicon.specs.Grammars.{WrittenName, WrittenCoanchor, WrittenEntry, lexicon_of}
-use Rattle.lx_lexicon.specs.Complaints.{complaint_if, is_empty, names_of, lemma_bad, bag_bad, coanchor_bad, coanchors_bad, literals_bad, body_bad, entry_bad, lexicon_bad}
+use Rattle.lx_lexicon.specs.Complaints.{is_empty, names_of, lemma_bad, coanchor_bad, coanchors_bad, literals_bad, body_bad, entry_bad, lexicon_bad}
 use Rattle.lx_lexicon.specs.Entries.{IsCoName, IsEntry, AreEntries, IsNotEmpty, KeepsLimits}
 use Rattle.lx_lexicon.specs.Answers.{IsLexiconReading}
-use Rattle.lx_lexicon.proofs.MetLemmas.{one_of_is, is_one}
+use Rattle.gr_feats.specs.Complaints.{complaint_if, bag_bad}
+use Rattle.gr_feats.proofs.ComplaintLemmas.{one_of_is, is_one, no_complaint_if}
 use Rattle.lx_lexicon.proofs.NoteLemmas.{row_length}
 
 none_left : {A : Type 0} (xs ys : List A) → xs ++ ys ≡ [] → xs ≡ []
@@ -29,17 +29,13 @@ none_right : {A : Type 0} (xs ys : List A) → xs ++ ys ≡ [] → ys ≡ []
 none_right [] ys e = e
 none_right (x ∷ xs) ys e = absurd (cc)
 
-no_complaint : (b : Bool) (f : Fault) (left : ℕ) → complaint_if b f left ≡ [] → b ≡ false
-no_complaint true f left e = absurd (cc)
-no_complaint false f left e = refl
-
 not_above : (n : ℕ) → nat_lt 4 n ≡ false → n ≤ 4
 not_above n e = elim (cases_lt 4 n) [ inl l ↦ absurd (true≢false (sym (lt-ltb 4 n l) ∙ e)) | inr l ↦ l ]
 
 module _ (texts : List (List ℕ)) where
   not_empty : (w : WrittenName) (s : Sym) → Names texts s.0 w.text → lemma_bad w ≡ [] → IsNotEmpty texts s
   not_empty w s names e = λ t is empty.
-      true≢false (sym (ap is_empty (one_text texts s.0 w.text t names is ∙ empty)) ∙ no_complaint (is_empty w.text) EmptyWord w.left e)
+      true≢false (sym (ap is_empty (one_text texts s.0 w.text t names is ∙ empty)) ∙ no_complaint_if (is_empty w.text) EmptyWord w.left e)
 
   -- the name is none of those before
   abbrev IsApart : List WrittenCoanchor → Sym × Sym → Type 0
@@ -78,7 +74,7 @@ module _ (texts : List (List ℕ)) where
       let full = none_right (complaint_if (is_one_of (names_of before) w.name.text) Duplicate w.name.left) (lemma_bad w.lemma) here in (
         (apart_from before w c.0 cs h.0.name rest.2, rest.0),
         (not_empty w.lemma c.1 h.0.lemma full, rest.1),
-        (λ t names. subst (λ z. is_one_of (names_of before) z ≡ false) (one_text texts c.0.0 w.name.text t h.0.name names) (no_complaint (is_one_of (names_of before) w.name.text) Duplicate w.name.left new), apart_before before w cs rest.2),
+        (λ t names. subst (λ z. is_one_of (names_of before) z ≡ false) (one_text texts c.0.0 w.name.text t h.0.name names) (no_complaint_if (is_one_of (names_of before) w.name.text) Duplicate w.name.left new), apart_before before w cs rest.2),
       )
 
   entry_keeps : (w : WrittenEntry) (e : Entry) → IsEntry texts w e → entry_bad w ≡ [] → KeepsLimits texts e
@@ -89,7 +85,7 @@ module _ (texts : List (List ℕ)) where
       let co = co_names_keep [] w.body.coanchors e.coanchors is.coanchors (none_right (bag_bad w.body.anchor) (coanchors_bad [] w.body.coanchors) (none_right (bag_bad w.body.iface) (bag_bad w.body.anchor ++ coanchors_bad [] w.body.coanchors) body)) in
       let count = row_length (IsLiteral texts) is.behind_anchor w.body.literals e.sem is.behind_all is.literals in
       record {
-        few = subst (λ n. n ≤ 4) (sym count) (not_above (length w.body.literals) (no_complaint (nat_lt 4 (length w.body.literals)) EntryLiterals w.head.left many));
+        few = subst (λ n. n ≤ 4) (sym count) (not_above (length w.body.literals) (no_complaint_if (nat_lt 4 (length w.body.literals)) EntryLiterals w.head.left many));
         lemma = not_empty w.head.lemma e.lemma is.lemma (none_left (lemma_bad w.head.lemma) (body_bad w.body) rest);
         names = co.0;
         lemmas = co.1;

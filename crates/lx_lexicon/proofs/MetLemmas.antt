@@ -1,34 +1,19 @@
 -- The names that were met.
 use Rattle.std.proofs.Common.{◌≡◌, ℕ, List, [], ◌∷◌, ◌++◌, Bool, true, false, refl, ap, sym, ◌∙◌, subst, inl, inr}
-use Rattle.std.specs.Prelude.{◌↔◌, ◌⊎◌, ◌||◌, ◌==◌, not, bytes_eq, if◌then◌else◌}
+use Rattle.std.specs.Prelude.{◌↔◌, ◌⊎◌, ◌==◌, not, if◌then◌else◌}
 use Rattle.std.specs.List.{list_any}
 use Rattle.indexmap.specs.IndexSet.{insert_key}
 use Rattle.std.proofs.lemmas.Bool.{eqb-true, eq-eqb, true≢false}
 use Rattle.std.proofs.lemmas.List.{map-append}
-use Rattle.std.proofs.lemmas.Slice.Eq.{bytes_eq-Decides}
 use Rattle.gr_base.specs.Lists.{IsAmong, NoneTwice}
 use Rattle.gr_base.proofs.ListLemmas.{IsAmong-append, IsAmong-append_left, IsAmong-new_one, list_any-IsAmong, IsAmong-list_any}
 use Rattle.gr_symbols.proofs.NumberLemmas.{numbers_tell_texts_apart}
-use Rattle.gr_grammar.proofs.Fronts.{or_cases}
 use Rattle.gr_reader.specs.Classes.{is_one_of}
+use Rattle.gr_feats.proofs.ComplaintLemmas.{one_of_is, is_one}
 use Rattle.lx_lexicon.specs.declared.found.Coanchor.{Coanchor}
 use Rattle.lx_lexicon.specs.Grammars.{WrittenCoanchor}
 use Rattle.lx_lexicon.specs.Complaints.{names_of}
 use Rattle.lx_lexicon.specs.Reading.{IsCoanchor, AreMet}
-
--- a text is one of some exactly where the test says so
-pub one_of_is : (ts : List (List ℕ)) (t : List ℕ) → is_one_of ts t ≡ true → IsAmong ts t
-one_of_is [] t e = absurd (true≢false (sym e))
-one_of_is (u ∷ ts) t e = elim (or_cases (bytes_eq u t) (is_one_of ts t) e) [ inl h ↦ inl (sym ((bytes_eq-Decides u t).0 h)) | inr h ↦ inr (one_of_is ts t h) ]
-
-or_true : (a : Bool) → (a || true) ≡ true
-or_true true = refl
-or_true false = refl
-
-pub is_one : (ts : List (List ℕ)) (t : List ℕ) → IsAmong ts t → is_one_of ts t ≡ true
-is_one [] t h = absurd h
-is_one (u ∷ ts) t (inl e) = ap (λ z. z || is_one_of ts t) ((bytes_eq-Decides u t).1 (sym e))
-is_one (u ∷ ts) t (inr h) = ap (λ z. bytes_eq u t || z) (is_one ts t h) ∙ or_true (bytes_eq u t)
 
 -- what an insertion does to the keys of a set of numbers
 not_true : (b : Bool) → not b ≡ true → b ≡ false

@@ -1,33 +1,27 @@
 -- What the notes of an entry are.
-use Rattle.std.proofs.Common.{◌≡◌, ℕ, suc, List, [], ◌∷◌, ◌++◌, Option, Some, Bool, true, false, length, refl, ap, sym, ◌∙◌, subst, append_assoc, append-nil, inl, inr}
-use Rattle.std.specs.Prelude.{map, nat_lt, ◌<◌, if◌then◌else◌}
+use Rattle.std.proofs.Common.{◌≡◌, ℕ, suc, List, [], ◌∷◌, ◌++◌, Option, length, refl, ap, sym, ◌∙◌, subst, append_assoc, append-nil}
+use Rattle.std.specs.Prelude.{map, nat_lt, ◌<◌}
 use Rattle.std.specs.List.{AllZip}
-use Rattle.std.proofs.lemmas.Bool.{true≢false}
 use Rattle.std.proofs.lemmas.List.{map-append}
-use Rattle.gr_base.specs.Lists.{IsAmong, NoneTwice}
-use Rattle.gr_base.proofs.ListLemmas.{NoneTwice-push, IsAmong-append, IsAmong-append_left, IsAmong-new_one}
+use Rattle.gr_base.specs.Lists.{NoneTwice}
 use Rattle.gr_terms.specs.declared.Sym.{Sym}
-use Rattle.gr_symbols.specs.Numbers.{Names}
-use Rattle.gr_symbols.proofs.NumberLemmas.{numbers_tell_texts_apart, Names-within}
-use Rattle.gr_reader.specs.Classes.{is_one_of}
+use Rattle.gr_symbols.proofs.NumberLemmas.{Names-within}
 use Rattle.gr_reader.specs.Complaints.{all_noted}
 use Rattle.gr_reader.specs.declared.complaints.Complaint.{Complaint}
-use Rattle.gr_reader.specs.declared.complaints.Fault.TheVariants.{EntryLiterals}
+use Rattle.gr_reader.specs.declared.complaints.Fault.TheVariants.{Duplicate, EntryLiterals}
 use Rattle.gr_reader.proofs.ComplaintLemmas.{noted_append}
-use Rattle.gr_feats.specs.declared.gathered.Pair.{Pair}
-use Rattle.gr_feats.specs.declared.gathered.Gathered.{Gathered}
-use Rattle.gr_feats.specs.Grammars.{WrittenPair}
 use Rattle.gr_feats.specs.Numberings.{Numbering, none_met}
-use Rattle.gr_feats.specs.Readings.{InTurn, IsPair, attributes, IsAgain, IsBag, IsLiteral}
-use Rattle.gr_feats.proofs.OneAnswer.{one_again}
+use Rattle.gr_feats.specs.Readings.{InTurn, IsLiteral}
 use Rattle.lx_lexicon.specs.Grammars.{WrittenCoanchor, WrittenEntry}
-use Rattle.lx_lexicon.specs.Complaints.{complaint_if, again_left, again_bad, bag_bad, lemma_bad, coanchor_bad, coanchors_bad, literals_bad, body_bad, entry_bad, lexicon_bad}
+use Rattle.gr_feats.specs.Complaints.{complaint_if, complaint_at, bag_bad}
+use Rattle.gr_feats.proofs.ComplaintLemmas.{again_is}
+use Rattle.lx_lexicon.specs.Complaints.{lemma_bad, coanchor_bad, coanchors_bad, literals_bad, body_bad, entry_bad, lexicon_bad}
 use Rattle.lx_lexicon.specs.Entries.{IsCoName, IsEntry, AreEntries}
 use Rattle.lx_lexicon.specs.declared.entry.Entry.{Entry}
 use Rattle.lx_lexicon.specs.declared.found.Found.{Found}
 use Rattle.lx_lexicon.specs.declared.found.Coanchor.{Coanchor}
 use Rattle.lx_lexicon.specs.Reading.{IsCoanchor, AreCoanchors, IsFound, HasLemmas, AreMet, co_name_of}
-use Rattle.lx_lexicon.proofs.MetLemmas.{one_of_is, is_one, none_met_yet}
+use Rattle.lx_lexicon.proofs.MetLemmas.{none_met_yet}
 use Rattle.lx_lexicon.proofs.Rows.{AllZip-last}
 
 -- rows of one length
@@ -44,59 +38,6 @@ coanchors_more before (v ∷ ws) w =
     ap (λ z. coanchor_bad before v ++ z) (coanchors_more (before ++ v ∷ []) ws w)
     ∙ (ap (λ z. coanchor_bad before v ++ (coanchors_bad (before ++ v ∷ []) ws ++ coanchor_bad z w)) (append_assoc before (v ∷ []) ws)
     ∙ sym (append_assoc (coanchor_bad before v) (coanchors_bad (before ++ v ∷ []) ws) (coanchor_bad (before ++ v ∷ ws) w)))
-
--- where an attribute first stands a second time, by texts and by numbers
-module _ (texts : List (List ℕ)) (once : NoneTwice texts) where
-  abbrev AreKnown : List Sym → List (List ℕ) → Type 0
-  AreKnown done seen = (s : Sym) (t : List ℕ) → Names texts s.0 t → (is_one_of seen t ≡ true → IsAmong done s) × (IsAmong done s → is_one_of seen t ≡ true)
-
-  same_sym : (s u : Sym) → s.0 ≡ u.0 → s ≡ u
-  same_sym s u e = λ i. record { 0 = e i }
-
-  one_text : {t u : List ℕ} → IsAmong (u ∷ []) t → t ≡ u
-  one_text (inl e) = e
-  one_text (inr x) = absurd x
-
-  one_sym : {s u : Sym} → IsAmong (u ∷ []) s → s ≡ u
-  one_sym (inl e) = e
-  one_sym (inr x) = absurd x
-
-  known_more : (done : List Sym) (seen : List (List ℕ)) (a : Sym) (v : List ℕ) → AreKnown done seen → Names texts a.0 v → AreKnown (done ++ a ∷ []) (seen ++ v ∷ [])
-  known_more done seen a v known names s t is =
-      let tell = numbers_tell_texts_apart texts s.0 a.0 t v once is names in (
-        λ h. elim (IsAmong-append seen (v ∷ []) t (one_of_is (seen ++ v ∷ []) t h)) [
-          | inl i ↦ IsAmong-append_left done (a ∷ []) s ((known s t is).0 (is_one seen t i))
-          | inr i ↦ subst (λ z. IsAmong (done ++ a ∷ []) z) (sym (same_sym s a (tell.1 (one_text i)))) (IsAmong-new_one done a)
-        ],
-        λ h. is_one (seen ++ v ∷ []) t (elim (IsAmong-append done (a ∷ []) s h) [
-          | inl i ↦ IsAmong-append_left seen (v ∷ []) t (one_of_is seen t ((known s t is).1 i))
-          | inr i ↦ subst (λ z. IsAmong (seen ++ v ∷ []) z) (sym (tell.0 (ap (λ z. z.0) (one_sym i)))) (IsAmong-new_one seen v)
-        ]),
-      )
-
-  again_or : (b : Bool) (done : List Pair) (p : Pair) (ps : List Pair) (left : ℕ) (later : Option ℕ)
-      → (b ≡ true → IsAgain (done ++ p ∷ ps) (Some left)) → (b ≡ false → IsAgain ((done ++ p ∷ []) ++ ps) later) → IsAgain (done ++ p ∷ ps) (if b then Some left else later)
-  again_or true done p ps left later f g = f refl
-  again_or false done p ps left later f g = subst (λ z. IsAgain z later) (append_assoc done (p ∷ []) ps) (g refl)
-
-  again_from : (ws : List WrittenPair) (pairs : List Pair) (before after : Numbering) (done : List Pair) (seen : List (List ℕ))
-      → AreKnown (attributes done) seen → NoneTwice (attributes done) → InTurn (IsPair texts) before ws pairs after → IsAgain (done ++ pairs) (again_left seen ws)
-  again_from [] [] before after done seen known none h = subst (λ z. NoneTwice (attributes z)) (sym (append-nil done)) none
-  again_from [] (p ∷ ps) before after done seen known none h = absurd h
-  again_from (w ∷ ws) [] before after done seen known none h = absurd h
-  again_from (w ∷ ws) (p ∷ ps) before after done seen known none h =
-      let more : attributes (done ++ p ∷ []) ≡ attributes done ++ p.attr ∷ [] = map-append (λ (q : Pair). q.attr) done (p ∷ []) in
-      again_or (is_one_of seen w.attr) done p ps w.left (again_left (seen ++ w.attr ∷ []) ws)
-      (λ e. (done, p, ps, refl, none, (known p.attr w.attr h.1.attr).0 e, sym h.1.left))
-      (λ e. again_from ws ps h.0 after (done ++ p ∷ []) (seen ++ w.attr ∷ [])
-      (subst (λ z. AreKnown z (seen ++ w.attr ∷ [])) (sym more) (known_more (attributes done) seen p.attr w.attr known h.1.attr))
-      (subst NoneTwice (sym more) (NoneTwice-push (attributes done) p.attr none (λ i. true≢false (sym ((known p.attr w.attr h.1.attr).1 i) ∙ e))))
-      h.2)
-
-  pub again_is : (before after : Numbering) (ws : List WrittenPair) (g : Gathered) → IsBag texts before ws g after → g.again ≡ again_left [] ws
-  again_is before after ws g is =
-      one_again is.pairs g.again (again_left [] ws) is.gathers.again
-      (again_from ws is.pairs before after [] [] (λ s t names. (λ e. absurd (true≢false (sym e)), λ i. absurd i)) tt is.read)
 
 -- one complaint after another
 pub noted_then : (a b c : Option Complaint) (xs ys : List Complaint) → b ≡ all_noted a xs → c ≡ all_noted b ys → c ≡ all_noted a (xs ++ ys)
@@ -162,8 +103,8 @@ entry_is texts w x coanchors is e = record {
 pub entry_noted : (texts : List (List ℕ)) → NoneTwice texts → (w : WrittenEntry) (x : Found) → IsFound texts w x → (old behind_literals behind_lemma behind_iface behind_anchor new : Option Complaint)
     → behind_literals ≡ all_noted old (complaint_if (nat_lt 4 (length x.body.sem)) EntryLiterals x.head.left)
     → behind_lemma ≡ all_noted behind_literals (lemma_bad w.head.lemma)
-    → behind_iface ≡ all_noted behind_lemma (again_bad x.body.iface.again)
-    → behind_anchor ≡ all_noted behind_iface (again_bad x.body.anchor.again)
+    → behind_iface ≡ all_noted behind_lemma (complaint_at Duplicate x.body.iface.again)
+    → behind_anchor ≡ all_noted behind_iface (complaint_at Duplicate x.body.anchor.again)
     → new ≡ all_noted behind_anchor (coanchors_bad [] w.body.coanchors)
     → new ≡ all_noted old (entry_bad w)
 entry_noted texts once w x is old behind_literals behind_lemma behind_iface behind_anchor new literals lemma iface anchor coanchors =
@@ -173,8 +114,8 @@ entry_noted texts once w x is old behind_literals behind_lemma behind_iface behi
     noted_then old behind_literals new (literals_bad w.head.left w.body.literals) (lemma_bad w.head.lemma ++ body_bad w.body)
     (literals ∙ (λ i. all_noted old (complaint_if (nat_lt 4 (count i)) EntryLiterals (is.head.left i))))
     (noted_then behind_literals behind_lemma new (lemma_bad w.head.lemma) (body_bad w.body) lemma
-    (noted_then behind_lemma behind_iface new (bag_bad w.body.iface) (bag_bad w.body.anchor ++ coanchors_bad [] w.body.coanchors) (iface ∙ ap (λ z. all_noted behind_lemma (again_bad z)) iface_again)
-    (noted_then behind_iface behind_anchor new (bag_bad w.body.anchor) (coanchors_bad [] w.body.coanchors) (anchor ∙ ap (λ z. all_noted behind_iface (again_bad z)) anchor_again) coanchors)))
+    (noted_then behind_lemma behind_iface new (bag_bad w.body.iface) (bag_bad w.body.anchor ++ coanchors_bad [] w.body.coanchors) (iface ∙ ap (λ z. all_noted behind_lemma (complaint_at Duplicate z)) iface_again)
+    (noted_then behind_iface behind_anchor new (bag_bad w.body.anchor) (coanchors_bad [] w.body.coanchors) (anchor ∙ ap (λ z. all_noted behind_iface (complaint_at Duplicate z)) anchor_again) coanchors)))
 
 -- the names of what was found have numbers of the table
 pub lemma_within : (texts : List (List ℕ)) (w : WrittenEntry) (x : Found) → IsFound texts w x → x.head.lemma.name.0 < length texts

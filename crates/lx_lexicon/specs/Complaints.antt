@@ -1,34 +1,16 @@
 -- What is wrong with a lexicon that can be read, in the order of its text.
-use Rattle.std.specs.Prelude.{ℕ, List, [], ◌∷◌, ◌++◌, map, length, Option, Some, None, Bool, true, false, nat_lt, if◌then◌else◌}
+use Rattle.std.specs.Prelude.{ℕ, List, [], ◌∷◌, ◌++◌, map, length, Bool, true, false, nat_lt}
 use Rattle.gr_base.specs.Lists.{gathered}
 use Rattle.gr_reader.specs.Classes.{is_one_of}
 use Rattle.gr_reader.specs.declared.complaints.Complaint.{Complaint}
-use Rattle.gr_reader.specs.declared.complaints.Fault.{Fault}
 use Rattle.gr_reader.specs.declared.complaints.Fault.TheVariants.{Duplicate, EmptyWord, EntryLiterals}
-use Rattle.gr_feats.specs.Grammars.{WrittenPair, WrittenLiteral}
+use Rattle.gr_feats.specs.Complaints.{complaint_if, bag_bad}
+use Rattle.gr_feats.specs.Grammars.{WrittenLiteral}
 use Rattle.lx_lexicon.specs.Grammars.{WrittenName, WrittenCoanchor, WrittenBody, WrittenEntry}
-
--- a complaint where it is one
-abbrev pub complaint_if : Bool → Fault → ℕ → List Complaint
-complaint_if true fault left = record { fault = fault; left = left } ∷ []
-complaint_if false fault left = []
 
 abbrev pub is_empty : List ℕ → Bool
 is_empty [] = true
 is_empty (b ∷ bs) = false
-
--- how many lexemes are left at the first attribute that is one of these or stands in a pair before, or None where there is none
-abbrev pub again_left : List (List ℕ) → List WrittenPair → Option ℕ
-again_left seen [] = None
-again_left seen (p ∷ ps) = if is_one_of seen p.attr then Some p.left else again_left (seen ++ p.attr ∷ []) ps
-
-abbrev pub again_bad : Option ℕ → List Complaint
-again_bad None = []
-again_bad (Some left) = complaint_if true Duplicate left
-
--- a bag is complained of at the first attribute that stands a second time
-abbrev pub bag_bad : List WrittenPair → List Complaint
-bag_bad pairs = again_bad (again_left [] pairs)
 
 -- a lemma is complained of where it is empty
 abbrev pub lemma_bad : WrittenName → List Complaint

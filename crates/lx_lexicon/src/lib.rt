@@ -17,7 +17,8 @@
 //!   don't depend on any table.
 //! - `specs/Entries` says which [`Entry`] a written one is, by a table of texts: names are the
 //!   numbers of their texts, and variables are numbered by first meeting in their entry.
-//! - `specs/Answers` says which answer is right for the bytes.
+//! - `specs/Answers` says which answer is right for the bytes, and which table of texts is right
+//!   behind it: the one before, with the names and variables of the lexicon in the order of the text.
 //!
 //! # How it is done
 //!
@@ -29,9 +30,11 @@
 //!
 //! # Contract for the layer above
 //!
-//! - [`read_lexicon`] promises the right answer, `IsLexiconAnswer`. The table of texts only grows.
-//! - [`laws`]: one answer is right, what was right stays right as the table grows, and what every
-//!   entry that was read keeps: few literals, co-anchors of different names, and no empty lemma.
+//! - [`read_lexicon`] promises the right answer and the right table, `IsLexiconAnswer`. After a
+//!   refusal, the table has only grown.
+//! - [`laws`]: behind one table one answer is right, and one new table; by one given table one answer
+//!   is right (`IsLexiconReading`), and stays right as it grows; and what every entry that was read
+//!   keeps: few literals, co-anchors of different names, and no empty lemma.
 #![tactic(auto)]
 
 mod entry;

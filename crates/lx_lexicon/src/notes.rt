@@ -2,7 +2,8 @@
 ghost use Rattle.std.specs.Prelude.{◌≡◌, ◌<◌, ◌↔◌, ◌⊎◌, ℕ, List, [], ◌∷◌, ◌++◌, length, map, IsTrue, IfOk, OnOk};
 ghost use Rattle.gr_base.specs.Lists.{IsAmong, NoneTwice};
 ghost use Rattle.gr_reader.specs.Complaints.{all_noted};
-ghost use Rattle.lx_lexicon.specs.Complaints.{again_bad, lemma_bad, coanchor_bad, coanchors_bad, entry_bad, complaint_if};
+ghost use Rattle.gr_feats.specs.Complaints.{complaint_at, complaint_if};
+ghost use Rattle.lx_lexicon.specs.Complaints.{lemma_bad, coanchor_bad, coanchors_bad, entry_bad};
 ghost use Rattle.lx_lexicon.specs.Entries.{IsEntry};
 ghost use Rattle.lx_lexicon.specs.Grammars.{WrittenName, WrittenCoanchor, WrittenEntry};
 ghost use Rattle.lx_lexicon.specs.Reading.{IsNamed, IsCoanchor, AreCoanchors, IsFound, HasLemmas, AreMet, co_name_of};
@@ -63,7 +64,7 @@ fn note_if(is: bool, fault: Fault, left: usize, complaints: &mut Complaints)
 
 /// Notes where an attribute stood a second time.
 fn note_again(again: Option<usize>, complaints: &mut Complaints)
-    ensures { complaints.new ≡ all_noted complaints.old (again_bad again) }
+    ensures { complaints.new ≡ all_noted complaints.old (complaint_at Fault.Duplicate again) }
 {
     if let Some(left) = again {
         complaints.note(Complaint {

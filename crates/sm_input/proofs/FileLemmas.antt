@@ -1,5 +1,5 @@
 -- From a run over all tokens of a file to its answer, for each grammar without numbered parts whose brackets are closed behind each text.
-use Rattle.std.proofs.Common.{◌≡◌, ℕ, ◌+◌, ◌-◌, ◌<◌, ◌≤◌, List, [], ◌∷◌, ◌++◌, length, drop, true, Option, Some, None, refl, ap, sym, ◌∙◌, subst, arith}
+use Rattle.std.proofs.Common.{◌≡◌, ℕ, ◌-◌, ◌<◌, ◌≤◌, List, [], ◌∷◌, ◌++◌, length, true, Some, refl, ap, sym, ◌∙◌, subst, arith}
 use Rattle.std.specs.Prelude.{slice_range}
 use Rattle.std.proofs.lemmas.List.{length-map, length-append}
 use Rattle.gr_grammar.specs.Grammars.{Grammar, Matches, is_clear, IsFault, Runs, took, failed, tree_of}

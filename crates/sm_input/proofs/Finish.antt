@@ -1,15 +1,14 @@
 -- What was read of the tokens of a file, with its first complaint, is the right answer.
-use Rattle.std.proofs.Common.{◌≡◌, ℕ, suc, ◌-◌, ◌≤◌, List, [], ◌∷◌, ◌++◌, length, Bool, true, false, Option, Some, None, Result, Ok, Err, inl, inr, refl, sym, ◌∙◌, ap, subst, arith}
+use Rattle.std.proofs.Common.{◌≡◌, ℕ, suc, ◌-◌, ◌≤◌, List, [], ◌∷◌, ◌++◌, length, false, Option, Some, None, Result, Ok, Err, inl, inr, refl, sym, ◌∙◌, ap, subst, arith}
 use Rattle.std.specs.Prelude.{nat_lt, ◌==◌, OnOk, slice_range}
-use Rattle.std.specs.List.{AllZip}
 use Rattle.std.proofs.lemmas.Bool.{true≢false, cases_lt, lt-ltb}
-use Rattle.gr_base.specs.Lists.{Each, NoneTwice}
+use Rattle.gr_base.specs.Lists.{Each}
 use Rattle.gr_tokens.specs.declared.Token.{Token}
 use Rattle.gr_tokens.specs.declared.ReadRefusal.{ReadRefusal}
 use Rattle.gr_reader.specs.Lexemes.{Lexeme, lexemes}
 use Rattle.gr_reader.specs.Classes.{flat}
-use Rattle.gr_reader.specs.Complaints.{all_noted, noted, refusal_at}
-use Rattle.gr_reader.specs.Files.{IsFile, IsComplaint, IsFileAnswer}
+use Rattle.gr_reader.specs.Complaints.{all_noted, refusal_at}
+use Rattle.gr_reader.specs.Files.{IsFile, IsComplaint}
 use Rattle.gr_reader.specs.Places.{place_of_token}
 use Rattle.gr_reader.specs.declared.complaints.Complaint.{Complaint}
 use Rattle.gr_reader.specs.declared.complaints.Fault.{Fault}
@@ -19,10 +18,12 @@ use Rattle.gr_text.specs.declared.Place.{Place}
 use Rattle.sm_input.specs.declared.input.Input.{Input}
 use Rattle.gr_tokens.specs.Answers.{AreTokens}
 use Rattle.sm_input.specs.Answers.{Inputs, IsTokensAnswer, PutsTokens, IsInputsAnswer, judged, noted_at}
-use Rattle.sm_input.specs.Complaints.{complaint_if, complaint_at, again_left, input_bad, inputs_bad, variable_left, file_bad}
+use Rattle.gr_feats.specs.Complaints.{complaint_if, complaint_at, again_left}
+use Rattle.gr_feats.proofs.ComplaintLemmas.{no_complaint_if, no_complaint_at}
+use Rattle.sm_input.specs.Complaints.{input_bad, inputs_bad, variable_left, file_bad}
 use Rattle.sm_input.specs.Firsts.{firsts}
 use Rattle.sm_input.specs.Grammars.{WrittenInput, inputs_text, inputs_of}
-use Rattle.sm_input.specs.Inputs.{IsInput, AreInputs}
+use Rattle.sm_input.specs.Inputs.{AreInputs}
 use Rattle.sm_input.specs.Reading.{IsFaultless, AreFaultless, IsPlain, InputHas, PutsInputs}
 use Rattle.gr_grammar.proofs.OneTree.{one_tree}
 use Rattle.gr_reader.proofs.Files.{later_lexemes}
@@ -41,14 +42,6 @@ left_empty (x ∷ xs) ys e = absurd (no_cons x (xs ++ ys) e)
 pub right_empty : {A : Type 0} (xs ys : List A) → xs ++ ys ≡ [] → ys ≡ []
 right_empty [] ys e = e
 right_empty (x ∷ xs) ys e = absurd (no_cons x (xs ++ ys) e)
-
-no_complaint_if : (b : Bool) (fault : Fault) (left : ℕ) → complaint_if b fault left ≡ [] → b ≡ false
-no_complaint_if true fault left e = absurd (no_cons _ [] e)
-no_complaint_if false fault left e = refl
-
-pub no_complaint_at : (fault : Fault) (left : Option ℕ) → complaint_at fault left ≡ [] → left ≡ None
-no_complaint_at fault None e = refl
-no_complaint_at fault (Some n) e = absurd (no_cons _ [] e)
 
 not_more : (n : ℕ) → nat_lt 24 n ≡ false → n ≤ 24
 not_more n e = elim (cases_lt 24 n) [ inl l ↦ absurd (true≢false (sym (lt-ltb 24 n l) ∙ e)) | inr l ↦ l ]

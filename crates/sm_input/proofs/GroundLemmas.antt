@@ -1,5 +1,5 @@
 -- Inputs that were read have no variables, and their literals are different.
-use Rattle.std.proofs.Common.{◌≡◌, ℕ, suc, ◌+◌, ◌^◌, ◌<◌, ◌≤◌, List, [], ◌∷◌, drop, length, Option, Some, None, inl, inr, refl, sym, ◌∙◌, ap, subst, arith}
+use Rattle.std.proofs.Common.{◌≡◌, ℕ, suc, ◌+◌, ◌^◌, ◌<◌, List, [], ◌∷◌, drop, length, Option, Some, None, inl, inr, refl, ap, subst, arith}
 use Rattle.std.specs.List.{AllZip}
 use Rattle.std.specs.Fmt.{decimal}
 use Rattle.std.proofs.lemmas.Fmt.{decimal_injective}
@@ -11,7 +11,6 @@ use Rattle.gr_terms.specs.declared.Sym.{Sym}
 use Rattle.gr_store.specs.Contents.{IsMade}
 use Rattle.gr_symbols.proofs.NumberLemmas.{one_text}
 use Rattle.gr_feats.specs.Grammars.{Written, a_name, a_variable, WrittenLiteral}
-use Rattle.gr_feats.specs.Numberings.{none_met}
 use Rattle.sm_input.specs.Inputs.{IsName, IsHandle, IsLiteral, AreNumbered, own_name}
 use Rattle.gr_terms.specs.LiteralViews.{IsConst, AreConst}
 use Rattle.sm_input.specs.Reading.{HandleHas, LiteralHas}

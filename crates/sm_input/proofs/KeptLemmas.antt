@@ -2,7 +2,7 @@
 use Rattle.std.proofs.Common.{◌≡◌, ℕ, ◌+◌, min, ◌<◌, ◌≤◌, List, [], ◌∷◌, ◌++◌, length, take, drop, Bool, true, false, inl, inr, refl, sym, ◌∙◌, ap, subst, arith, append-nil}
 use Rattle.std.specs.Prelude.{◌⊎◌, if◌then◌else◌, nat_lt}
 use Rattle.std.specs.List.{AllZip}
-use Rattle.std.proofs.lemmas.Bool.{true≢false, cases_lt, cases_Bool, lt-ltb, ltb-true}
+use Rattle.std.proofs.lemmas.Bool.{true≢false, cases_lt, lt-ltb}
 use Rattle.std.proofs.lemmas.List.{length-take, take_all, take-append-le, take-append-drop, length-append}
 use Rattle.std.proofs.lemmas.Slice.Zip.{AllZip-long, all_zipped_more}
 use Rattle.gr_base.specs.Lists.{IsAmong, NoneTwice}

@@ -1,7 +1,6 @@
 -- What callers can rely on: one answer is right, it stays right, and inputs that were read are ground.
-use Rattle.std.proofs.Common.{◌≡◌, ◌↔◌, ℕ, ◌+◌, ◌≤◌, List, [], ◌∷◌, length, Bool, true, false, Option, Some, None, Result, Ok, Err, inl, inr, refl, sym, ◌∙◌, ap, subst, arith}
+use Rattle.std.proofs.Common.{◌≡◌, ℕ, List, [], ◌∷◌, Bool, true, false, None, Result, Ok, Err, inl, inr, refl, sym, ◌∙◌, ap, subst, arith}
 use Rattle.std.specs.Prelude.{◌⊎◌, if◌then◌else◌}
-use Rattle.std.specs.List.{AllZip}
 use Rattle.gr_base.specs.Lists.{IsAmong, IsSublist, Each, NoneTwice}
 use Rattle.gr_symbols.specs.Numbers.{Grows}
 use Rattle.gr_tokens.specs.Answers.{AreTokens, IsRefused}
@@ -19,7 +18,9 @@ use Rattle.gr_feats.specs.Numberings.{none_met}
 use Rattle.gr_feats.proofs.MadeLemmas.{bag_made}
 use Rattle.sm_input.specs.declared.input.Input.{Input}
 use Rattle.sm_input.specs.Answers.{Inputs, IsTokensAnswer, IsRead, PutsTokens, HasTable, IsInputsAnswer, IsInputsReading, IsSame}
-use Rattle.sm_input.specs.Complaints.{complaint_at, inputs_bad, variable_left, file_bad}
+use Rattle.gr_feats.specs.Complaints.{complaint_at}
+use Rattle.gr_feats.proofs.ComplaintLemmas.{no_complaint_at}
+use Rattle.sm_input.specs.Complaints.{inputs_bad, variable_left, file_bad}
 use Rattle.gr_symbols.specs.Numbers.{with_texts}
 use Rattle.gr_symbols.proofs.NumberLemmas.{with_texts-once}
 use Rattle.gr_grammar.proofs.OneTree.{one_tree}
@@ -28,10 +29,10 @@ use Rattle.sm_input.specs.Tables.{inputs_names}
 use Rattle.sm_input.specs.Firsts.{firsts, is_there}
 use Rattle.sm_input.specs.Grammars.{WrittenInput, inputs_text, inputs_of}
 use Rattle.sm_input.specs.Inputs.{IsInput, AreInputs, IsGround}
-use Rattle.sm_input.specs.Reading.{IsFaultless, IsPlain, InputHas, LiteralHas}
+use Rattle.sm_input.specs.Reading.{IsFaultless, InputHas, LiteralHas}
 use Rattle.sm_input.proofs.Same.{there_decides, word_of}
 use Rattle.sm_input.proofs.FirstLemmas.{to_by, firsts_each, firsts_once}
-use Rattle.sm_input.proofs.Finish.{all_faultless, no_complaint_at, left_empty, right_empty}
+use Rattle.sm_input.proofs.Finish.{all_faultless, left_empty, right_empty}
 use Rattle.sm_input.proofs.Plain.{none_left, plain_inputs}
 use Rattle.sm_input.proofs.Spelled.{NoFeed, none_fed, inputs_fed}
 use Rattle.sm_input.proofs.GroundLemmas.{bag_const, literals_const, literals_differ, numbered_length}

@@ -1,5 +1,5 @@
 -- Literals with names for the handles that were left out, and inputs of them.
-use Rattle.std.proofs.Common.{◌≡◌, ℕ, suc, ◌+◌, ◌≤◌, List, [], ◌∷◌, ◌++◌, length, take, Option, Some, None, refl, sym, ◌∙◌, ap, subst, arith, ◌==◌}
+use Rattle.std.proofs.Common.{◌≡◌, ℕ, suc, ◌+◌, List, [], ◌∷◌, ◌++◌, length, Option, Some, None, refl, sym, ◌∙◌, ap, subst, arith, ◌==◌}
 use Rattle.std.specs.List.{AllZip}
 use Rattle.std.proofs.lemmas.List.{take_all}
 use Rattle.gr_base.specs.Lists.{Each, NoneTwice}
@@ -8,23 +8,23 @@ use Rattle.gr_terms.specs.declared.Term.TheVariants.{Const, Var}
 use Rattle.gr_terms.specs.declared.Literal.{Literal}
 use Rattle.gr_symbols.specs.Numbers.{Names, Grows}
 use Rattle.gr_symbols.proofs.NumberLemmas.{Names-grows}
-use Rattle.gr_reader.specs.declared.complaints.Complaint.{Complaint}
 use Rattle.gr_reader.specs.declared.complaints.Fault.TheVariants.{Duplicate, InputLiterals, TooManyInputs}
-use Rattle.gr_feats.specs.declared.gathered.Gathered.{Gathered}
-use Rattle.gr_feats.specs.Grammars.{Written, a_name, a_variable, WrittenPair, WrittenLiteral}
-use Rattle.gr_feats.specs.Numberings.{Numbering, none_met}
+use Rattle.gr_feats.specs.Grammars.{Written, a_name, a_variable, WrittenLiteral}
+use Rattle.gr_feats.specs.Numberings.{none_met}
 use Rattle.gr_feats.specs.Readings.{IsBag}
 use Rattle.sm_input.specs.declared.raw.RawLiteral.{RawLiteral}
 use Rattle.sm_input.specs.declared.raw.RawInput.{RawInput}
 use Rattle.sm_input.specs.declared.input.Input.{Input}
 use Rattle.sm_input.specs.Grammars.{WrittenInput}
-use Rattle.sm_input.specs.Complaints.{input_bad, again_left, complaint_if, complaint_at}
+use Rattle.sm_input.specs.Complaints.{input_bad}
 use Rattle.sm_input.specs.Firsts.{firsts}
 use Rattle.sm_input.specs.Inputs.{IsName, IsHandle, IsLiteral, AreNumbered, IsInput, own_name}
-use Rattle.sm_input.specs.Reading.{IsRawTerm, IsRawHandle, IsRawLiteral, AreKept, IsStart, IsRawInput, raw_bad, HasHandle, IsNamedLiteral, AreNamed, IsNamedInput, IsPlain, HandleHas, LiteralHas, IsFaultless}
+use Rattle.sm_input.specs.Reading.{IsRawTerm, IsRawHandle, IsRawLiteral, IsRawInput, raw_bad, HasHandle, IsNamedLiteral, AreNamed, IsNamedInput, IsPlain, HandleHas, LiteralHas, IsFaultless}
 use Rattle.sm_input.proofs.FirstLemmas.{firsts_each}
 use Rattle.sm_input.proofs.KeptLemmas.{too_many}
-use Rattle.sm_input.proofs.BagLemmas.{again_is, plain_pairs}
+use Rattle.gr_feats.specs.Complaints.{complaint_if, complaint_at}
+use Rattle.gr_feats.proofs.ComplaintLemmas.{again_is}
+use Rattle.sm_input.proofs.BagLemmas.{plain_pairs}
 
 module _ (texts : List (List ℕ)) where
   plain_name : (w : Written) (x : Term) → IsPlain w → IsRawTerm texts w x → IsName texts w x
@@ -65,7 +65,7 @@ module _ (texts : List (List ℕ)) where
   input_right apart w r i h k f =
       let F = firsts [] w.literals in
       let b = h.start.1 in
-      let none : r.start.again ≡ None = again_is texts apart none_met w.start r.start h.start.0 b ∙ f.once in
+      let none : r.start.again ≡ None = again_is texts apart none_met h.start.0 w.start r.start b ∙ f.once in
       let met : h.start.0 ≡ none_met = plain_pairs texts none_met w.start b.pairs h.start.0 f.plain.start b.read in
       let bag : r.start ≡ record { bag = i.start; again = None } = λ j. record { bag = sym k.start j; again = none j } in
       record {
@@ -79,7 +79,7 @@ module _ (texts : List (List ℕ)) where
   pub bad_right : NoneTwice texts → (number : ℕ) (w : WrittenInput) (r : RawInput) → IsRawInput texts w r → raw_bad number r ≡ input_bad number w
   bad_right apart number w r h =
       let e = too_many texts w.literals r.literals.items h.literals in
-      let a = again_is texts apart none_met w.start r.start h.start.0 h.start.1 in
+      let a = again_is texts apart none_met h.start.0 w.start r.start h.start.1 in
       let l = h.left in
       λ i. complaint_if (e i) InputLiterals (l i) ++ (complaint_if (number == 4096) TooManyInputs (l i) ++ complaint_at Duplicate (a i))
 

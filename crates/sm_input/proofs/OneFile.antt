@@ -1,8 +1,8 @@
 -- One answer is right for the tokens of a file, for each grammar.
-use Rattle.std.proofs.Common.{◌≡◌, ℕ, List, [], ◌∷◌, Option, Some, None, Result, Ok, Err, inl, inr, true, refl, sym, ◌∙◌, ap, subst}
-use Rattle.std.specs.Prelude.{◌⊎◌, ◌-◌, length}
+use Rattle.std.proofs.Common.{◌≡◌, ℕ, List, [], Some, None, Result, Ok, Err, true, refl, sym, ◌∙◌, ap}
+use Rattle.std.specs.Prelude.{◌-◌, length}
 use Rattle.std.proofs.lemmas.Option.{none-some, same_Some}
-use Rattle.gr_grammar.specs.Grammars.{Grammar, System, IsSystem, IsText, Matches, is_clear}
+use Rattle.gr_grammar.specs.Grammars.{Grammar, System, IsSystem, Matches, is_clear}
 use Rattle.gr_grammar.proofs.OneTree.{one_tree}
 use Rattle.gr_text.specs.declared.Place.{Place}
 use Rattle.gr_tokens.specs.declared.Token.{Token}

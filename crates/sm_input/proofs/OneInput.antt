@@ -1,11 +1,11 @@
 -- One input is read of what is written, and it stays right as the table of texts grows.
-use Rattle.std.proofs.Common.{◌≡◌, ℕ, suc, List, [], ◌∷◌, Option, Some, None, refl, sym, ◌∙◌, ap, subst}
+use Rattle.std.proofs.Common.{◌≡◌, ℕ, suc, List, [], ◌∷◌, Option, Some, None, refl, ap}
 use Rattle.std.specs.List.{AllZip}
 use Rattle.gr_base.specs.Lists.{NoneTwice}
 use Rattle.gr_terms.specs.declared.Term.{Term}
 use Rattle.gr_terms.specs.declared.Term.TheVariants.{Const, Var}
 use Rattle.gr_terms.specs.declared.Literal.{Literal}
-use Rattle.gr_symbols.specs.Numbers.{Names, Grows}
+use Rattle.gr_symbols.specs.Numbers.{Grows}
 use Rattle.gr_symbols.proofs.NumberLemmas.{Names-grows}
 use Rattle.gr_feats.specs.Grammars.{Written, a_name, a_variable, WrittenLiteral}
 use Rattle.gr_feats.specs.Numberings.{none_met, IsNumbering}

@@ -1,5 +1,5 @@
 -- What holds of all lexemes holds of the terms that they are. So where no variable stands among the lexemes, none stands in an input.
-use Rattle.std.proofs.Common.{◌≡◌, ℕ, List, [], ◌∷◌, ◌++◌, Bool, true, false, Option, Some, None, refl, sym, ◌∙◌, subst}
+use Rattle.std.proofs.Common.{◌≡◌, ℕ, List, [], ◌∷◌, Bool, true, false, Option, Some, None, refl, sym, ◌∙◌, subst}
 use Rattle.std.specs.Prelude.{if◌then◌else◌, length}
 use Rattle.std.proofs.lemmas.Bool.{true≢false}
 use Rattle.gr_base.specs.Lists.{Each}
@@ -9,7 +9,7 @@ use Rattle.gr_grammar.proofs.Fronts.{front_of}
 use Rattle.gr_reader.specs.Lexemes.{Lexeme}
 use Rattle.gr_reader.specs.Classes.{Class, flat, test, any_name, variable}
 use Rattle.gr_reader.specs.Parts.{token_of}
-use Rattle.gr_feats.specs.Grammars.{Written, a_name, a_variable, WrittenLiteral, term_text, term_of, pair_text, pair_of, next_pair_text, next_pair_of, pairs_text, pairs_of, bag_text, bag_of, perhaps_pairs_of, next_arg_text, next_arg_of, args_text, args_of, perhaps_args_of, colon_text, behind_colon_of, second_of, with_args, literal_text, literal_of, next_literal_text, next_literal_of, row_text, row_of, literals_text, literals_of, closed_literals_text, closed_literals_of}
+use Rattle.gr_feats.specs.Grammars.{Written, a_name, a_variable, term_text, term_of, pair_text, pair_of, next_pair_text, next_pair_of, pairs_text, pairs_of, bag_text, bag_of, perhaps_pairs_of, next_arg_text, next_arg_of, args_text, args_of, perhaps_args_of, colon_text, behind_colon_of, second_of, with_args, literal_text, literal_of, next_literal_text, next_literal_of, row_text, row_of, literals_text, literals_of, closed_literals_text, closed_literals_of}
 use Rattle.sm_input.specs.Complaints.{variable_left}
 use Rattle.sm_input.specs.Grammars.{perhaps_bag_text, perhaps_bag_of, input_text, input_of, inputs_text, inputs_of}
 use Rattle.sm_input.specs.Reading.{IsPlain, HandleHas, LiteralHas, InputHas}

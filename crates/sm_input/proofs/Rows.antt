@@ -1,10 +1,8 @@
 -- The loop over the inputs of a file.
 use Rattle.std.proofs.Common.{◌≡◌, ℕ, suc, ◌+◌, List, [], ◌∷◌, ◌++◌, length, true, false, Option, refl, sym, ◌∙◌, ap, subst, arith, append_assoc, append-nil}
-use Rattle.std.specs.List.{AllZip}
 use Rattle.std.proofs.lemmas.Slice.Zip.{AllZip-long, all_zipped_more}
-use Rattle.gr_base.specs.Lists.{NoneTwice}
 use Rattle.gr_symbols.proofs.NumberLemmas.{Grows-trans}
-use Rattle.gr_grammar.specs.Grammars.{begins, Runs, took, tree_of, items, Rounds, start, round, round_items}
+use Rattle.gr_grammar.specs.Grammars.{begins, Runs, took, tree_of, Rounds, start, round, round_items}
 use Rattle.gr_grammar.proofs.Loops.{ended, ended-items}
 use Rattle.gr_reader.specs.Lexemes.{Lexeme}
 use Rattle.gr_reader.specs.Classes.{flat}
@@ -15,7 +13,7 @@ use Rattle.gr_feats.specs.Passing.{PassesTexts}
 use Rattle.gr_feats.proofs.PassingLemmas.{texts_stay, texts_then}
 use Rattle.sm_input.specs.declared.input.Input.{Input}
 use Rattle.sm_input.specs.Complaints.{input_bad, inputs_bad}
-use Rattle.sm_input.specs.Grammars.{WrittenInput, input_text, input_of, inputs_text, inputs_of}
+use Rattle.sm_input.specs.Grammars.{WrittenInput, input_text, input_of, inputs_of}
 use Rattle.sm_input.specs.Inputs.{IsInput}
 use Rattle.sm_input.specs.Reading.{Apart, IsFaultless, AreFaultless, PutsInput, PutsInputs}
 use Rattle.sm_input.proofs.TableLemmas.{no_inputs, inputs_more}

@@ -1,6 +1,6 @@
 -- No name that a file spells begins with a line feed.
-use Rattle.std.proofs.Common.{◌≡◌, ◌≤◌, ℕ, List, [], ◌∷◌, ◌++◌, map, Bool, true, false, refl, sym, ◌∙◌, ap, subst, arith, IsTrue}
-use Rattle.std.specs.Prelude.{◌&&◌, ◌||◌, ◌==◌}
+use Rattle.std.proofs.Common.{◌≡◌, ℕ, List, [], ◌∷◌, true, false, refl, subst, arith, IsTrue}
+use Rattle.std.specs.Prelude.{◌||◌, ◌==◌}
 use Rattle.std.proofs.lemmas.Bool.{true≢false, false≢true}
 use Rattle.gr_base.specs.Lists.{Each}
 use Rattle.gr_base.proofs.ListLemmas.{Each-map, Each-at, Each-members, same_head}
@@ -16,7 +16,6 @@ use Rattle.gr_tokens.specs.Tokens.{Writes}
 use Rattle.gr_reader.specs.Lexemes.{Lexeme, lexeme_of, lexemes}
 use Rattle.gr_reader.specs.Classes.{test, any_name, variable, kind_number}
 use Rattle.gr_reader.proofs.Texts.{all_written}
-use Rattle.gr_feats.specs.Grammars.{Written, a_name, a_variable}
 use Rattle.sm_input.specs.Grammars.{inputs_text, inputs_of}
 use Rattle.gr_reader.specs.Classes.{flat}
 use Rattle.std.specs.Fmt.{decimal}

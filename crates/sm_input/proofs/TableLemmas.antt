@@ -1,23 +1,16 @@
 -- The table of names behind inputs, and that it is one.
-use Rattle.std.proofs.Common.{◌≡◌, ℕ, suc, ◌+◌, ◌≤◌, List, [], ◌∷◌, ◌++◌, length, take, Option, Some, None, Result, Ok, Err, refl, sym, ◌∙◌, ap, subst, arith, append_assoc, append-nil}
-use Rattle.std.specs.Prelude.{slice_range, OnOk}
+use Rattle.std.proofs.Common.{◌≡◌, ℕ, suc, ◌+◌, List, [], ◌∷◌, ◌++◌, length, Option, Some, None, refl, sym, ◌∙◌, ap, subst, arith, append_assoc, append-nil}
 use Rattle.std.specs.List.{AllZip}
 use Rattle.std.proofs.lemmas.List.{take_all}
-use Rattle.gr_base.specs.Lists.{Each, NoneTwice, gathered}
+use Rattle.gr_base.specs.Lists.{Each, gathered}
 use Rattle.gr_terms.specs.declared.Literal.{Literal}
 use Rattle.gr_terms.specs.declared.Term.{Term}
 use Rattle.gr_symbols.specs.Numbers.{with_texts}
-use Rattle.gr_symbols.proofs.NumberLemmas.{with_texts-append, with_texts-once}
+use Rattle.gr_symbols.proofs.NumberLemmas.{with_texts-append}
 use Rattle.gr_grammar.specs.Grammars.{Matches, no_more, items}
 use Rattle.gr_grammar.proofs.OneTree.{one_tree}
-use Rattle.gr_tokens.specs.declared.Token.{Token}
-use Rattle.gr_tokens.specs.declared.ReadRefusal.{ReadRefusal}
-use Rattle.gr_reader.specs.Lexemes.{Lexeme, lexemes}
+use Rattle.gr_reader.specs.Lexemes.{Lexeme}
 use Rattle.gr_reader.specs.Classes.{flat}
-use Rattle.gr_reader.specs.Complaints.{all_noted}
-use Rattle.gr_reader.specs.Files.{IsFile}
-use Rattle.gr_reader.specs.declared.complaints.Complaint.{Complaint}
-use Rattle.gr_reader.proofs.Files.{later_lexemes}
 use Rattle.gr_reader.proofs.LexemeLemmas.{Lexeme-set}
 use Rattle.gr_reader.proofs.Systems.{flat_is_system}
 use Rattle.gr_feats.specs.Grammars.{Written, WrittenLiteral}
@@ -26,7 +19,7 @@ use Rattle.gr_feats.proofs.TableLemmas.{one_behind, items_behind}
 use Rattle.sm_input.specs.declared.raw.RawLiteral.{RawLiteral}
 use Rattle.sm_input.specs.declared.raw.RawInput.{RawInput}
 use Rattle.sm_input.specs.Firsts.{firsts}
-use Rattle.sm_input.specs.Grammars.{WrittenInput, input_text, input_of, inputs_text, inputs_of}
+use Rattle.sm_input.specs.Grammars.{input_text, input_of, inputs_of}
 use Rattle.sm_input.specs.Reading.{IsRawHandle, IsRawLiteral, IsRawInput, AreNamed, IsFaultless, raw_own_names, PutsInput, PutsInputs}
 use Rattle.sm_input.specs.Tables.{own_if, own_names, input_names, inputs_names}
 use Rattle.sm_input.proofs.Naming.{named_length}

@@ -1,36 +1,20 @@
 -- What is wrong with a file of inputs that can be read.
-use Rattle.std.specs.Prelude.{ℕ, suc, List, [], ◌∷◌, ◌++◌, length, Option, Some, None, Bool, true, false, ◌==◌, nat_lt, if◌then◌else◌}
+use Rattle.std.specs.Prelude.{ℕ, suc, List, [], ◌∷◌, ◌++◌, length, Option, Some, None, ◌==◌, nat_lt, if◌then◌else◌}
 use Rattle.gr_grammar.specs.Grammars.{Matches}
 use Rattle.gr_reader.specs.Lexemes.{Lexeme}
-use Rattle.gr_reader.specs.Classes.{flat, is_one_of, test, variable}
+use Rattle.gr_reader.specs.Classes.{flat, test, variable}
 use Rattle.gr_reader.specs.declared.complaints.Complaint.{Complaint}
-use Rattle.gr_reader.specs.declared.complaints.Fault.{Fault}
-use Rattle.gr_reader.specs.declared.complaints.Fault.TheVariants.{Duplicate, Variable, InputLiterals, TooManyInputs}
-use Rattle.gr_feats.specs.Grammars.{WrittenPair}
+use Rattle.gr_reader.specs.declared.complaints.Fault.TheVariants.{Variable, InputLiterals, TooManyInputs}
+use Rattle.gr_feats.specs.Complaints.{complaint_if, complaint_at, bag_bad}
 use Rattle.sm_input.specs.Grammars.{WrittenInput, inputs_text, inputs_of}
 use Rattle.sm_input.specs.Firsts.{firsts}
-
--- a complaint where it is one
-abbrev pub complaint_if : Bool → Fault → ℕ → List Complaint
-complaint_if true fault left = record { fault = fault; left = left } ∷ []
-complaint_if false fault left = []
-
--- a complaint at the place where so many lexemes are left
-abbrev pub complaint_at : Fault → Option ℕ → List Complaint
-complaint_at fault None = []
-complaint_at fault (Some left) = complaint_if true fault left
-
--- how many lexemes are left at the first attribute that is one of these or stands in a pair before, or None where there is none
-abbrev pub again_left : List (List ℕ) → List WrittenPair → Option ℕ
-again_left seen [] = None
-again_left seen (p ∷ ps) = if is_one_of seen p.attr then Some p.left else again_left (seen ++ p.attr ∷ []) ps
 
 -- An input is complained of at its word where it has too many different literals, and where too many inputs stand before it; its start features are at the first attribute that stands a second time. Of two complaints at one place the one that stands first here counts.
 abbrev pub input_bad : ℕ → WrittenInput → List Complaint
 input_bad number w =
     complaint_if (nat_lt 24 (length (firsts [] w.literals))) InputLiterals w.left
     ++ (complaint_if (number == 4096) TooManyInputs w.left
-    ++ complaint_at Duplicate (again_left [] w.start))
+    ++ bag_bad w.start)
 
 -- the complaints of inputs, where so many stand before them
 abbrev pub inputs_bad : ℕ → List WrittenInput → List Complaint

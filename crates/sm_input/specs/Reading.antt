@@ -22,7 +22,7 @@ use Rattle.gr_reader.specs.Lexemes.{Lexeme}
 use Rattle.sm_input.specs.Grammars.{WrittenInput, input_text, input_of, inputs_text, inputs_of}
 use Rattle.sm_input.specs.Tables.{own_if, input_names, inputs_names}
 use Rattle.sm_input.specs.Firsts.{firsts}
-use Rattle.sm_input.specs.Complaints.{complaint_if, complaint_at, again_left}
+use Rattle.gr_feats.specs.Complaints.{complaint_if, complaint_at, again_left}
 use Rattle.sm_input.specs.declared.input.Input.{Input}
 use Rattle.sm_input.specs.Inputs.{own_name, IsInput}
 

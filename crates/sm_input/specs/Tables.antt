@@ -1,5 +1,5 @@
 -- The table of names behind inputs: it has the texts of their names and variables, and the names of the handles that were left out.
-use Rattle.std.specs.Prelude.{◌≡◌, ℕ, suc, List, [], ◌∷◌, ◌++◌, Option, Some, None}
+use Rattle.std.specs.Prelude.{ℕ, suc, List, [], ◌∷◌, ◌++◌, Option, Some, None}
 use Rattle.gr_base.specs.Lists.{gathered}
 use Rattle.gr_grammar.specs.Grammars.{Matches, items}
 use Rattle.gr_reader.specs.Lexemes.{Lexeme}

@@ -19,8 +19,10 @@
 //!   depend on any table. The one that stands first counts, and at one place the first of the list.
 //! - `specs/Inputs` says which [`Input`] a written one is, by a table of texts: names are the numbers
 //!   of their texts, and the handle that is left out at the n-th literal is that of LF and n.
-//! - `specs/Answers` says which answer is right for the bytes, and `specs/Reading` what the parts are
-//!   while they are read.
+//! - `specs/Tables` has the texts that inputs name, which the table of texts gets: for each input the
+//!   names and variables as they stand in it, and then the names of the handles that were left out.
+//! - `specs/Answers` says which answer and which table are right for the bytes, and `specs/Reading`
+//!   what the parts are while they are read.
 //!
 //! # How it is done
 //!
@@ -33,10 +35,11 @@
 //!
 //! # Contract for the layer above
 //!
-//! - [`read_inputs`] promises the right answer, `IsInputsAnswer`. The table of texts only grows, by no
-//!   more texts than there are bytes.
-//! - [`laws`]: one answer is right, what was right stays right as the table grows, inputs that were
-//!   read are ground, and no name of a file is that of a handle that was left out.
+//! - [`read_inputs`] promises the right answer and the right table, `IsInputsAnswer`. After a refusal,
+//!   the table has only grown, by no more texts than there are bytes.
+//! - [`laws`]: behind one table one answer is right, and one new table; by one given table one answer
+//!   is right (`IsInputsReading`), and stays right as it grows; inputs that were read are ground, and
+//!   no name of a file is that of a handle that was left out.
 #![tactic(auto)]
 
 mod input;

@@ -1,6 +1,7 @@
 use Rattle.std.proofs.Common.{◌∙◌}
 use Rattle.gr_reader.specs.Complaints.{all_noted}
-use Rattle.lx_lexicon.specs.Complaints.{complaint_if, lemma_bad, names_of}
+use Rattle.gr_feats.specs.Complaints.{complaint_if}
+use Rattle.lx_lexicon.specs.Complaints.{lemma_bad, names_of}
 use Rattle.gr_reader.specs.Classes.{is_one_of}
 use Rattle.gr_reader.specs.declared.complaints.Fault.TheVariants.{Duplicate}
 use Rattle.lx_lexicon.proofs.MetLemmas.{met_before, met_behind}

@@ -1,4 +1,4 @@
-use Rattle.std.proofs.Common.{◌≡◌, ◌∷◌, [], ◌+◌, length, refl, sym, ap, subst, ◌∙◌, append_assoc, append-nil, arith, length-append, rules}
+use Rattle.std.proofs.Common.{◌≡◌, ◌∷◌, [], length, refl, sym, ap, subst, ◌∙◌, append_assoc, append-nil, arith, length-append, rules}
 use Rattle.std.specs.Vec.Iter.{into_iter_items}
 use Rattle.gr_symbols.proofs.NumberLemmas.{Grows-refl, Grows-trans}
 use Rattle.sm_input.specs.Reading.{AreNamed, raw_own_names}

@@ -1,4 +1,3 @@
-use Rattle.std.specs.Fmt.{decimal}
 use Rattle.sm_input.proofs.Spelled.{none_own}
 use Rattle.sm_input.proofs.laws.own_names_are_unspelled.Goals as goal
 

@@ -8,7 +8,6 @@ use Rattle.gr_reader.specs.declared.reader.Stop.TheVariants.{Memory as NoMemory}
 use Rattle.gr_reader.proofs.Steps.{first_stops, then_stops, row_stops, memory_stops}
 use Rattle.gr_feats.specs.Grammars.{next_arg_text, next_arg_of, term_of}
 use Rattle.std.specs.List.{AllZip}
-use Rattle.gr_feats.specs.Numberings.{none_met}
 use Rattle.gr_feats.proofs.PassingLemmas.{pass_texts, texts_then}
 use Rattle.sm_input.specs.Reading.{IsRawTerm}
 use Rattle.sm_input.proofs.RawLemmas.{zip_more, zip_first}

@@ -1,4 +1,4 @@
-use Rattle.std.proofs.Common.{◌≡◌, false, true, Err, refl, rules, subst, sym, length, ap, arith}
+use Rattle.std.proofs.Common.{◌≡◌, false, true, Err, refl, rules, length, ap, arith}
 use Rattle.std.specs.Prelude.{codes}
 use Rattle.gr_base.specs.Lists.{NoneTwice}
 use Rattle.gr_symbols.proofs.NumberLemmas.{Grows-trans}

@@ -1,4 +1,4 @@
-use Rattle.std.proofs.Common.{◌≡◌, length, ap, sym, subst, arith}
+use Rattle.std.proofs.Common.{length, ap, sym, subst, arith}
 use Rattle.gr_tokens.specs.Answers.{AreTokens}
 use Rattle.sm_input.proofs.FileLemmas.{tokens_few}
 use Rattle.sm_input.proofs.Finish.{read_there}

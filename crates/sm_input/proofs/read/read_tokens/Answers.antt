@@ -2,7 +2,6 @@ use Rattle.std.proofs.Common.{◌≡◌, refl, None}
 use Rattle.gr_symbols.proofs.NumberLemmas.{Grows-refl}
 use Rattle.gr_reader.proofs.Steps.{syntax_run}
 use Rattle.gr_reader.specs.Complaints.{all_noted}
-use Rattle.sm_input.specs.Answers.{IsTokensAnswer}
 use Rattle.sm_input.specs.Complaints.{inputs_bad}
 use Rattle.sm_input.specs.Grammars.{inputs_text, inputs_of}
 use Rattle.sm_input.specs.Reading.{AreFaultless}

@@ -4,6 +4,7 @@ pub mod TreeForms
 pub mod LoadSteps
 pub mod CarryLemmas
 pub mod ModelLemmas
+pub mod EntryLemmas
 pub mod ReadingLemmas
 pub mod LaidNodes
 pub mod ReadTrees

@@ -2,5 +2,6 @@ pub mod Loads
 pub mod Carrying
 pub mod CanonicalTrees
 pub mod ModelTrees
+pub mod ModelEntries
 pub mod Forms
 pub mod Reading

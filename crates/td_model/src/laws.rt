@@ -24,6 +24,7 @@ ghost use Rattle.td_model.specs.Loads.{IsLoaded, slot_links};
 ghost use Rattle.td_model.specs.Carrying.{Carries};
 ghost use Rattle.td_model.specs.CanonicalTrees.{IsCanonicalTree};
 ghost use Rattle.td_model.specs.Forms.{AreSameTrees};
+ghost use Rattle.td_model.specs.ModelEntries.{IsModelEntry};
 ghost use Rattle.td_model.specs.ModelTrees.{IsModelText, IsModelTree, IsNamedDescription};
 
 /// A store that has a description's network carries the empty forest's network. An insertion changes
@@ -66,14 +67,17 @@ pub fn forms_do_not_depend_on_the_network()
 {}
 
 /// The tree of a model has as its text, which a set of trees keeps for it, the text of the model, and
-/// no other: a model has one text, whatever labels make it. The tree has the names of the description
-/// alone.
+/// no other: a model has one text, whatever labels make it. So the tree beside that text is an entry of
+/// the model. The tree has the names of the description alone.
 pub fn the_text_of_a_model()
     ensures text { (texts : List (List ℕ)) (d : Description ℕ ℕ) (F : Forest (List ℕ)) (t : Tree) (bytes : List ℕ)
         → Agrees (merged_network d F) → IsModelTree d F t → HasText texts t bytes → IsModelText (text_in texts) d F bytes }
     ensures tree { (texts : List (List ℕ)) (d : Description ℕ ℕ) (F : Forest (List ℕ)) (t : Tree) (bytes : List ℕ)
         → Agrees (merged_network d F) → IsModelTree d F t → IsNamedTree (length texts) t
         → IsModelText (text_in texts) d F bytes → HasText texts t bytes }
+    ensures entry { (texts : List (List ℕ)) (d : Description ℕ ℕ) (F : Forest (List ℕ)) (t : Tree) (bytes : List ℕ)
+        → Agrees (merged_network d F) → IsModelTree d F t → HasText texts t bytes
+        → IsModelEntry texts d F (record { tree = t; text = bytes }) }
     ensures one { (texts : List (List ℕ)) (d : code.Description) (F : Forest (List ℕ)) (x y : List ℕ) → NoneTwice texts
         → IsNamedDescription (length texts) d → IsModelText (text_in texts) (description_of d) F x
         → IsModelText (text_in texts) (description_of d) F y → x ≡ y }

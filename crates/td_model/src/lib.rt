@@ -15,6 +15,7 @@
 //!   assertions say the same as a network (`Carries`).
 //! - `specs/CanonicalTrees` has trees whose lists are the canonical bags of slots, over any network,
 //!   and `specs/ModelTrees` the tree and the text of a model (`IsModelTree`, `IsModelText`).
+//!   `specs/ModelEntries` says of a tree and a text together that they are a model's (`IsModelEntry`).
 //! - `specs/Forms` says when a tree over one network has each canonical form that a tree over another
 //!   one has, and `specs/Reading` what single tree nodes are read as.
 //!
@@ -25,7 +26,8 @@
 //! - `tree_of` gives the tree with the canonical bags of the model.
 //! - [`laws`] has what a search stands on: after loading and after each step its store carries the
 //!   network of its forest; a canonical form does not depend on how the network is written, so the
-//!   tree of a model has the text of the model; a model has one text and one tree.
+//!   tree of a model has the text of the model, and beside it is an entry of the model; a model has one
+//!   text and one tree.
 #![tactic(auto)]
 
 mod bags;

@@ -1,7 +1,7 @@
 -- What a set gains by the tree of a model.
 use Rattle.std.specs.Prelude.{◌≡◌, ℕ, List, ◌∷◌, Bool, true, false, length, ◌⊎◌, refl}
 use Rattle.std.specs.Bool.{OnTrue, OnFalse}
-use Rattle.std.proofs.Common.{inl, inr, subst, sym, ap, ◌∙◌, arith}
+use Rattle.std.proofs.Common.{inl, inr, subst, sym, ◌∙◌, arith}
 use Rattle.std.proofs.lemmas.List.{length-map}
 use Rattle.gr_base.specs.Lists.{IsAmong, IsWithin}
 use Rattle.gr_base.specs.Forests.{Forest, empty, tree, IsOneTree}
@@ -14,7 +14,9 @@ use Rattle.td_desc.specs.Descriptions.{Description, node_of, description_of}
 use Rattle.td_forest.specs.Steps.{width}
 use Rattle.td_colour.specs.Models.{IsForestModel, IsMinimalModel}
 use Rattle.td_model.specs.ModelTrees.{IsModelText}
-use Rattle.td_solver.specs.Solutions.{GainsSome, IsSolutionText}
+use Rattle.td_model.specs.ModelEntries.{IsModelEntry}
+use Rattle.td_model.proofs.EntryLemmas.{entry_text}
+use Rattle.td_solver.specs.Solutions.{GainsSome, IsSolution}
 use Rattle.td_solver.specs.Turns.{HasTextOf}
 
 pub one_width : (F : Forest (List ℕ)) (n : ℕ) → n ≡ 1 → n ≡ width F → IsOneTree F
@@ -29,12 +31,15 @@ minimal dd count F e model one = record {
 }
 
 module _ (texts : List (List ℕ)) (d : Description ℕ ℕ) (F : Forest (List ℕ)) (t : Tree) (old new : List Entry)
-    (text_is : (bytes : List ℕ) → HasText texts t bytes → IsModelText (text_in texts) d F bytes) where
+    (entry_is : (bytes : List ℕ) → HasText texts t bytes → IsModelEntry texts d F (record { tree = t; text = bytes })) where
   abbrev IsAdded : Type 0
   IsAdded = (bytes : List ℕ) × HasText texts t bytes × LacksText old bytes × Gains old new t bytes
 
   abbrev WasThere : Type 0
   WasThere = (bytes : List ℕ) × HasText texts t bytes × IsAmong (texts_of old) bytes
+
+  text_is : (bytes : List ℕ) → HasText texts t bytes → IsModelText (text_in texts) d F bytes
+  text_is bytes h = entry_text texts d F (record { tree = t; text = bytes }) (entry_is bytes h)
 
   gained : (h : IsAdded) → IsAmong new (record { tree = t; text = h.0 })
   gained h = subst (λ es. IsAmong es (record { tree = t; text = h.0 })) (sym h.3.3) (IsAmong-append_right h.3.0 (record { tree = t; text = h.0 } ∷ h.3.1) (record { tree = t; text = h.0 }) (inl refl))
@@ -49,11 +54,11 @@ module _ (texts : List (List ℕ)) (d : Description ℕ ℕ) (F : Forest (List �
     | inr j ↦ subst (λ es. IsAmong es e) (sym h.3.3) (IsAmong-append_right h.3.0 (record { tree = t; text = h.0 } ∷ h.3.1) e (inr j))
   ]
 
-  only_by : IsMinimalModel d F → (h : IsAdded) → (e : Entry) → IsAmong new e → IsAmong old e ⊎ IsSolutionText (text_in texts) d e.text
+  only_by : IsMinimalModel d F → (h : IsAdded) → (e : Entry) → IsAmong new e → IsAmong old e ⊎ IsSolution texts d e
   only_by min h e i = elim (IsAmong-append h.3.0 (record { tree = t; text = h.0 } ∷ h.3.1) e (subst (λ es. IsAmong es e) h.3.3 i)) [
     | inl j ↦ inl (subst (λ es. IsAmong es e) (sym h.3.2) (IsAmong-append_left h.3.0 h.3.1 e j))
     | inr j ↦ elim j [
-      | inl q ↦ inr (subst (λ x. IsSolutionText (text_in texts) d x) (sym (ap (λ (x : Entry). x.text) q)) (F, min, text_is h.0 h.1))
+      | inl q ↦ inr (subst (λ (x : Entry). IsSolution texts d x) (sym q) (record { forest = F; minimal = min; entry = entry_is h.0 h.1 }))
       | inr k ↦ inl (subst (λ es. IsAmong es e) (sym h.3.2) (IsAmong-append_right h.3.0 h.3.1 e k))
     ]
   ]

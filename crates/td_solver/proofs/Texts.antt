@@ -18,11 +18,22 @@ use Rattle.td_canon.specs.TreeSets.{texts_of}
 use Rattle.td_desc.specs.declared.Description as code
 use Rattle.td_desc.specs.Descriptions.{Description, DescribedNode, node_of, description_of}
 use Rattle.td_forest.specs.Without.{without}
+use Rattle.td_desc.specs.Likeness.{SayTheSame}
+use Rattle.td_colour.proofs.Likening.{same_minimal}
 use Rattle.td_colour.specs.Models.{node_links, set_links, merged_network, model_tree, IsForestModel, IsMinimalModel}
 use Rattle.td_model.specs.ModelTrees.{IsNamedAssertion, IsNamedDescription}
+use Rattle.td_model.proofs.EntryLemmas.{entry_text, same_entries}
 use Rattle.td_solver.specs.Searches.{Below}
-use Rattle.td_solver.specs.Solutions.{GainsSome, GainsAll, IsSolutionText}
+use Rattle.td_solver.specs.Solutions.{GainsSome, GainsAll, IsSolution, IsSolutionText}
 use Rattle.td_solver.specs.Turns.{HasTextOf, HasAllBelow}
+
+-- a solution has the text of a minimal model
+pub solution_text : {V S : Type 0} (texts : List (List ℕ)) (d : Description V S) (e : sets.Entry) → IsSolution texts d e → IsSolutionText (text_in texts) d e.text
+solution_text texts d e s = (s.forest, s.minimal, entry_text texts d s.forest e s.entry)
+
+-- descriptions that say the same have the same solutions
+pub same_solutions : {V S W R : Type 0} (a : Description V S) (b : Description W R) → SayTheSame a b → (texts : List (List ℕ)) (e : sets.Entry) → IsSolution texts a e → IsSolution texts b e
+same_solutions a b same texts e s = record { forest = s.forest; minimal = (same_minimal a b same s.forest).0 s.minimal; entry = same_entries a b same texts s.forest e s.entry }
 
 -- what a network of nodes that share tree nodes has more is links
 link_of_nodes : (a b : Option (DescribedNode ℕ)) (x : net.Assertion ℕ ℕ) → IsAmong (node_links a b) x → (s t : ℕ) × (x ≡ link s t)
@@ -98,7 +109,7 @@ module _ (dd : code.Description) (texts : List (List ℕ)) (once : NoneTwice tex
         let r = IsAmong-map_from (λ (e : sets.Entry). e.text) new bytes i in
         elim (g.only r.0 r.1) [
           | inl j ↦ inl (subst (λ t. IsAmong (texts_of old) t) (sym r.2) (IsAmong-map (λ (e : sets.Entry). e.text) old r.0 j))
-          | inr s ↦ inr (subst (λ t. IsSolutionText (text_in texts) d t) (sym r.2) s)
+          | inr s ↦ inr (subst (λ t. IsSolutionText (text_in texts) d t) (sym r.2) (solution_text texts d r.0 s))
         ]),
     (λ i. elim i [
       | inl j ↦

@@ -15,7 +15,7 @@ returns-clause-has c one =
     let F = forest_of c.args.forest.now in
     let d = description_of c.args.task.now.d.now in
     added_has c.args.task.now.symbols.now d F c.in_ok-tree.tree c.args.out.now c.add.new.self
-    (λ bytes h. c.the_text_of_a_model.ensures.text c.args.task.now.symbols.now d F c.in_ok-tree.tree bytes c.requires.model.network c.in_ok-tree.ensures h)
+    (λ bytes h. c.the_text_of_a_model.ensures.entry c.args.task.now.symbols.now d F c.in_ok-tree.tree bytes c.requires.model.network c.in_ok-tree.ensures h)
     c.in_ok-_added._added c.in_ok-_added.ensures.added c.in_ok-_added.ensures.there c.in_ok-_added.ensures.same
 
 pub returns-clause-some : goal.returns-clause-some
@@ -25,5 +25,5 @@ returns-clause-some c =
     let one : IsOneTree F = one_width F c.width.result c.if-width-ne1.false c.width.ensures.is in
     let min : IsMinimalModel d F = minimal c.args.task.now.d.now c.args.task.now.count F c.requires.task.count c.requires.model one in
     added_gains c.args.task.now.symbols.now d F c.in_ok-tree.tree c.args.out.now c.add.new.self
-    (λ bytes h. c.the_text_of_a_model.ensures.text c.args.task.now.symbols.now d F c.in_ok-tree.tree bytes c.requires.model.network c.in_ok-tree.ensures h)
+    (λ bytes h. c.the_text_of_a_model.ensures.entry c.args.task.now.symbols.now d F c.in_ok-tree.tree bytes c.requires.model.network c.in_ok-tree.ensures h)
     min c.in_ok-_added._added c.in_ok-_added.ensures.added c.in_ok-_added.ensures.same c.in_ok-_added.ensures.whole

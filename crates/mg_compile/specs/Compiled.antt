@@ -6,7 +6,8 @@ use Rattle.gr_base.specs.Lists.{IsAmong, Each, InByteOrder}
 use Rattle.gr_terms.specs.declared.Sym.{Sym}
 use Rattle.mg_syntax.specs.declared.item.Item.{Item}
 use Rattle.td_desc.specs.Descriptions.{Description}
-use Rattle.td_solver.specs.Solutions.{IsModelTotal, IsSolutionText}
+use Rattle.td_canon.specs.TreeSets.{Entry}
+use Rattle.td_solver.specs.Solutions.{IsModelTotal, IsSolution, IsSolutionText}
 use Rattle.mg_facts.specs.declared.variable.Variable.{Variable}
 use Rattle.mg_facts.specs.Said.{Slot}
 use Rattle.mg_facts.specs.Meanings.{Clashes, IsDescribed}
@@ -25,7 +26,12 @@ abbrev pub IsCompiledText : (ℕ → List ℕ) → List Item → Sym → List �
 IsCompiledText text m c bytes =
     (w : Walk) × (d : Description Variable Slot) × IsExpansion m c w × Describes m w d × IsSolutionText text d bytes
 
--- these are all of them, each once, in byte order
+-- the tree and the text beside it are those of a minimal model of an expansion of the class that doesn't clash
+abbrev pub IsCompiledTree : List (List ℕ) → List Item → Sym → Entry → Type 0
+IsCompiledTree texts m c e =
+    (w : Walk) × (d : Description Variable Slot) × IsExpansion m c w × Describes m w d × IsSolution texts d e
+
+-- these are all texts of the class, each once, in byte order
 pub record IsCompiledList (text : ℕ → List ℕ) (m : List Item) (c : Sym) (texts : List (List ℕ)) : Type 0 where
   pub order : InByteOrder texts
   pub all : (bytes : List ℕ) → IsAmong texts bytes ↔ IsCompiledText text m c bytes

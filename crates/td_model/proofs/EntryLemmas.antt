@@ -1,5 +1,5 @@
 -- A model's tree beside its text is an entry of the model, an entry has the model's text, and descriptions that say the same have the same entries.
-use Rattle.std.specs.Prelude.{ℕ, List}
+use Rattle.std.specs.Prelude.{ℕ, List, ◌↔◌}
 use Rattle.std.proofs.Common.{sym, ◌∙◌, subst}
 use Rattle.gr_base.specs.Forests.{Forest}
 use Rattle.gr_terms.specs.Canonical.{Node, IsCanonicalForm}
@@ -36,12 +36,24 @@ model_entry texts d F t bytes agrees is h =
 pub entry_text : {V S : Type 0} (texts : List (List ℕ)) (d : Description V S) (F : Forest (List ℕ)) (e : Entry) → IsModelEntry texts d F e → IsModelText (text_in texts) d F e.text
 entry_text texts d F e h = record { form = h.form; canonical = h.of_model; spells = h.spells }
 
-pub same_entries : {V S W R : Type 0} (a : Description V S) (b : Description W R) → SayTheSame a b
-    → (texts : List (List ℕ)) (F : Forest (List ℕ)) (e : Entry) → IsModelEntry texts a F e → IsModelEntry texts b F e
-same_entries a b same texts F e h = record {
-  form = h.form;
-  of_model = (same_model_forms a b same (text_in texts) F h.form).0 h.of_model;
-  nodes = h.nodes;
-  of_tree = h.of_tree;
-  spells = h.spells;
-}
+module _ {V S W R : Type 0} (a : Description V S) (b : Description W R) (same : SayTheSame a b) (texts : List (List ℕ)) (F : Forest (List ℕ)) (e : Entry) where
+  entry_there : IsModelEntry texts a F e → IsModelEntry texts b F e
+  entry_there h = record {
+    form = h.form;
+    of_model = (same_model_forms a b same (text_in texts) F h.form).0 h.of_model;
+    nodes = h.nodes;
+    of_tree = h.of_tree;
+    spells = h.spells;
+  }
+
+  entry_home : IsModelEntry texts b F e → IsModelEntry texts a F e
+  entry_home h = record {
+    form = h.form;
+    of_model = (same_model_forms a b same (text_in texts) F h.form).1 h.of_model;
+    nodes = h.nodes;
+    of_tree = h.of_tree;
+    spells = h.spells;
+  }
+
+  pub same_entries : IsModelEntry texts a F e ↔ IsModelEntry texts b F e
+  same_entries = (entry_there, entry_home)

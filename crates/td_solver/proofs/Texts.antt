@@ -1,5 +1,5 @@
 -- The texts of the minimal models, each the only one of its model.
-use Rattle.std.specs.Prelude.{◌≡◌, ℕ, ◌<◌, List, [], ◌∷◌, Option, Some, None, length, map, slice_get}
+use Rattle.std.specs.Prelude.{◌≡◌, ℕ, ◌<◌, List, [], ◌∷◌, Option, Some, None, length, map, slice_get, ◌↔◌}
 use Rattle.std.proofs.Common.{inl, inr, subst, sym, ap, ◌∙◌, arith}
 use Rattle.std.proofs.lemmas.List.{length-map}
 use Rattle.std.proofs.lemmas.Option.{slice_get-get_or}
@@ -32,8 +32,11 @@ pub solution_text : {V S : Type 0} (texts : List (List ℕ)) (d : Description V 
 solution_text texts d e s = (s.forest, s.minimal, entry_text texts d s.forest e s.entry)
 
 -- descriptions that say the same have the same solutions
-pub same_solutions : {V S W R : Type 0} (a : Description V S) (b : Description W R) → SayTheSame a b → (texts : List (List ℕ)) (e : sets.Entry) → IsSolution texts a e → IsSolution texts b e
-same_solutions a b same texts e s = record { forest = s.forest; minimal = (same_minimal a b same s.forest).0 s.minimal; entry = same_entries a b same texts s.forest e s.entry }
+pub same_solutions : {V S W R : Type 0} (a : Description V S) (b : Description W R) → SayTheSame a b → (texts : List (List ℕ)) (e : sets.Entry) → IsSolution texts a e ↔ IsSolution texts b e
+same_solutions a b same texts e = (
+  (λ s. record { forest = s.forest; minimal = (same_minimal a b same s.forest).0 s.minimal; entry = (same_entries a b same texts s.forest e).0 s.entry }),
+  (λ s. record { forest = s.forest; minimal = (same_minimal a b same s.forest).1 s.minimal; entry = (same_entries a b same texts s.forest e).1 s.entry }),
+)
 
 -- what a network of nodes that share tree nodes has more is links
 link_of_nodes : (a b : Option (DescribedNode ℕ)) (x : net.Assertion ℕ ℕ) → IsAmong (node_links a b) x → (s t : ℕ) × (x ≡ link s t)

@@ -8,7 +8,9 @@ use Rattle.td_desc.specs.Descriptions.{Description, description_of, node_of}
 use Rattle.td_desc.specs.Likeness.{SayTheSame}
 use Rattle.td_colour.specs.Models.{IsForestModel}
 use Rattle.td_colour.proofs.Likening.{same_count, same_minimal, same_forms, same_number}
-use Rattle.td_solver.specs.Solutions.{IsModelTotal, IsSolutionText}
+use Rattle.td_canon.specs.TreeSets.{Entry}
+use Rattle.td_solver.specs.Solutions.{IsModelTotal, IsSolution, IsSolutionText}
+use Rattle.td_solver.proofs.Texts.{same_solutions}
 use Rattle.mg_syntax.specs.declared.item.Item.{Item}
 use Rattle.mg_facts.specs.declared.variable.Variable.{Variable}
 use Rattle.mg_facts.specs.Said.{Slot, Said}
@@ -37,9 +39,6 @@ one_total d (suc m) a b s t =
 
 text_there : {V S W R : Type 0} (a : Description V S) (b : Description W R) → SayTheSame a b → (text : ℕ → List ℕ) (bytes : List ℕ) → IsSolutionText text a bytes → IsSolutionText text b bytes
 text_there a b h text bytes s = (s.0, (same_minimal a b h s.0).0 s.1, record { form = s.2.form; canonical = (same_forms a b h text s.0 s.2.form).0 s.2.canonical; spells = s.2.spells })
-
-text_home : {V S W R : Type 0} (a : Description V S) (b : Description W R) → SayTheSame a b → (text : ℕ → List ℕ) (bytes : List ℕ) → IsSolutionText text b bytes → IsSolutionText text a bytes
-text_home a b h text bytes s = (s.0, (same_minimal a b h s.0).1 s.1, record { form = s.2.form; canonical = (same_forms a b h text s.0 s.2.form).1 s.2.canonical; spells = s.2.spells })
 
 -- an expansion has one total
 pub one_count : AreOneDescription → (m : List Item) (w : Walk) (a b : ℕ) → IsExpansionTotal m w a → IsExpansionTotal m w b → a ≡ b
@@ -75,5 +74,5 @@ module _ (one : AreOneDescription) (m : List Item) (w : Walk) (d : code.Descript
     pub text_down : (e : Description Variable Slot) → Describes m w e → IsSolutionText text e bytes → IsSolutionText text (description_of d) bytes
     text_down e h s = text_there is.described (description_of d) is.same text bytes (subst (λ (x : Description Variable Slot). IsSolutionText text x bytes) (only_one e h) s)
 
-    pub text_up : IsSolutionText text (description_of d) bytes → IsSolutionText text is.described bytes
-    text_up s = text_home is.described (description_of d) is.same text bytes s
+  pub solution_up : (texts : List (List ℕ)) (e : Entry) → IsSolution texts (description_of d) e → IsSolution texts is.described e
+  solution_up texts e s = (same_solutions is.described (description_of d) is.same texts e).1 s

@@ -10,6 +10,7 @@ use Rattle.gr_terms.specs.declared.Sym.{Sym}
 use Rattle.mg_syntax.specs.declared.item.Item.{Item}
 use Rattle.td_canon.specs.CanonicalTexts.{text_in}
 use Rattle.td_canon.specs.TreeSets.{Entry, IsWhole, texts_of}
+use Rattle.td_solver.proofs.Texts.{solution_text}
 use Rattle.mg_facts.specs.Meanings.{names_in}
 use Rattle.mg_printer.specs.Printing.{HasTexts}
 use Rattle.mg_expand.specs.declared.step.Step.{Step}
@@ -22,7 +23,7 @@ use Rattle.mg_expand.proofs.WalkLemmas.{one_list}
 use Rattle.mg_compile.specs.declared.found.Found.{Found}
 use Rattle.mg_compile.specs.declared.refusal.CompileRefusal.{CompileRefusal}
 use Rattle.mg_compile.specs.declared.refusal.CompileRefusal.TheVariants as refusal
-use Rattle.mg_compile.specs.Compiled.{IsCompiledText, IsExpansionTotal, IsRightList, IsFaultOf, IsClassFault}
+use Rattle.mg_compile.specs.Compiled.{IsCompiledText, IsCompiledTree, IsExpansionTotal, IsRightList, IsFaultOf, IsClassFault}
 use Rattle.mg_compile.specs.Taking.{Took, Refuses, IsFit}
 use Rattle.mg_compile.specs.Going.{IsCut, IsListed, HasGone, IsOnWay}
 use Rattle.mg_compile.proofs.Carried.{AreOneDescription, describes, as_many}
@@ -31,6 +32,10 @@ use Rattle.mg_compile.proofs.Fitting.{description_fits}
 use Rattle.mg_compile.proofs.Gone.{clash_faultless, small_faultless, passed, searched}
 
 module _ (texts : List (List ℕ)) (m : List Item) (c : Sym) (budget : ℕ) (ws : List Walk) (all : AreExpansions m c ws) where
+  compiled_texts : (trees : List Entry) → Each (IsCompiledTree texts m c) trees → Each (IsCompiledText (text_in texts) m c) (texts_of trees)
+  compiled_texts [] h = tt
+  compiled_texts (e ∷ es) h = ((h.0.0, h.0.1, h.0.2, h.0.3, solution_text texts h.0.1 e h.0.4), compiled_texts es h.1)
+
   -- behind the last expansion the list is the right one, cut or not
   right_of : (k : ℕ) (f : Found) (b : Bool) → IsWhole texts f.trees → 0 < length ws → k ≤ budget → HasGone texts m c budget ws k f
       → IsListed b texts m budget ws k f → (b ≡ false → k ≡ length ws) → IsRightList (text_in texts) m c budget (texts_of f.trees) b
@@ -39,7 +44,7 @@ module _ (texts : List (List ℕ)) (m : List Item) (c : Sym) (budget : ℕ) (ws 
         record {
           order = whole.is_set.order;
           all = λ bytes. (
-            (λ i. Each-at (IsCompiledText (text_in texts) m c) (texts_of f.trees) bytes g.only i),
+            (λ i. Each-at (IsCompiledText (text_in texts) m c) (texts_of f.trees) bytes (compiled_texts f.trees g.only) i),
             (λ x.
                 let r = slice_get-IsAmong ws x.0 (all.all.all x.0 x.2) in
                 let n : r.0 < length ws = slice_get_within ws r.0 x.0 r.1 in
@@ -50,7 +55,7 @@ module _ (texts : List (List ℕ)) (m : List Item) (c : Sym) (budget : ℕ) (ws 
       )
   right_of k f true whole some within g l ends = (
     whole.is_set.order,
-    g.only,
+    compiled_texts f.trees g.only,
     (λ steps s.
         let e : s.walks ≡ ws = one_list m c s.walks ws s.expansions all in
         let p : budget < length ws + sum s.totals = l.past s.totals (subst (λ vs. AllZip (IsExpansionTotal m) vs s.totals) e s.counted) in
@@ -88,7 +93,7 @@ starts texts m c budget p f e whole none left uncut = record {
   looked = let g : p.given ≡ 0 = given in omega arith;
   whole = whole;
   gone = λ ws all. subst (λ k. HasGone texts m c budget ws k f) (sym given) (record {
-    only = subst (λ (es : List Entry). Each (IsCompiledText (text_in texts) m c) (texts_of es)) (sym none) tt;
+    only = subst (λ (es : List Entry). Each (IsCompiledTree texts m c) es) (sym none) tt;
     empty = λ z. none;
     faultless = λ n w l h. absurd (no_less n l);
     listed = subst (λ b. IsListed b texts m budget ws 0 f) (sym uncut) (record {
@@ -214,11 +219,13 @@ module _ (one : AreOneDescription) (texts : List (List ℕ)) (m : List Item) (c 
   -- what is handed out at the end
   pub record IsDone (new : Found) : Type 0 where
     pub list : IsRightList (text_in texts) m c budget (texts_of new.trees) new.cut
+    pub trees : Each (IsCompiledTree texts m c) new.trees
     pub faultless : (e : CompileRefusal) → IsClassFault m c budget e → ⊥
 
   at_end : (ws : List Walk) → AreExpansions m c ws → 0 < length ws → p.given ≡ length ws → IsDone old
   at_end ws all some e = record {
     list = right_of texts m c budget ws all p.given old old.cut h.whole some within (h.gone ws all) ((h.gone ws all).listed) (λ z. e);
+    trees = (h.gone ws all).only;
     faultless = none_faulty texts m c budget ws all p.given old (h.gone ws all) (inl e);
   }
 
@@ -233,6 +240,7 @@ module _ (one : AreOneDescription) (texts : List (List ℕ)) (m : List Item) (c 
       let now : HasGone texts m c budget ws p.given cut_found = record { only = g.only; empty = g.empty; faultless = g.faultless; listed = cut } in
       record {
         list = right_of texts m c budget ws all p.given cut_found true h.whole some within now cut (λ z. absurd (false≢true (sym z)));
+        trees = g.only;
         faultless = none_faulty texts m c budget ws all p.given old g (inr e);
       }
 

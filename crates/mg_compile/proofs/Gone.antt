@@ -3,14 +3,14 @@ use Rattle.std.specs.Prelude.{◌≡◌, ℕ, zero, suc, ◌+◌, ◌<◌, ◌�
 use Rattle.std.proofs.Common.{inl, inr, refl, sym, ap, ◌∙◌, subst, arith}
 use Rattle.std.proofs.lemmas.Option.{slice_get_within}
 use Rattle.gr_base.specs.Lists.{IsAmong, Each, IsWithin}
-use Rattle.gr_base.proofs.ListLemmas.{Each-at, Each-members, IsAmong-map, IsAmong-map_from, IsAmong-slice_get}
+use Rattle.gr_base.proofs.ListLemmas.{Each-at, Each-members, IsAmong-slice_get}
 use Rattle.gr_terms.specs.declared.Sym.{Sym}
 use Rattle.mg_syntax.specs.declared.item.Item.{Item}
 use Rattle.td_canon.specs.CanonicalTexts.{text_in}
 use Rattle.td_canon.specs.TreeSets.{Entry, texts_of}
 use Rattle.td_desc.specs.declared.Description as code
 use Rattle.td_desc.specs.Descriptions.{Description, description_of}
-use Rattle.td_solver.specs.Solutions.{IsSolutionText, GainsSome}
+use Rattle.td_solver.specs.Solutions.{IsSolution, IsSolutionText, GainsSome}
 use Rattle.mg_facts.specs.declared.variable.Variable.{Variable}
 use Rattle.mg_facts.specs.Said.{Slot}
 use Rattle.mg_facts.specs.Meanings.{Clashes, IsDescriptionOf}
@@ -19,11 +19,11 @@ use Rattle.mg_expand.specs.Items.{expansion_said}
 use Rattle.mg_expand.specs.Steps.{IsTooLarge}
 use Rattle.mg_compile.specs.declared.found.Found.{Found}
 use Rattle.mg_compile.specs.declared.refusal.CompileRefusal.TheVariants as refusal
-use Rattle.mg_compile.specs.Compiled.{Describes, IsCompiledText, IsExpansionTotal, IsFaultless}
+use Rattle.mg_compile.specs.Compiled.{Describes, IsCompiledTree, IsExpansionTotal, IsFaultless}
 use Rattle.mg_compile.specs.Taking.{Paid, LacksUnits, FoundAll, FoundSome, WasSearched, Searched, Passed}
 use Rattle.mg_compile.specs.Going.{HasTextsOf, IsPast, IsUncut, IsCut, IsListed, HasGone}
 use Rattle.mg_compile.proofs.Zipped.{some_same, zip_last, zip_at}
-use Rattle.mg_compile.proofs.Carried.{AreOneDescription, clash_counts, describes, only_one, as_many, counts, text_down, text_up}
+use Rattle.mg_compile.proofs.Carried.{AreOneDescription, clash_counts, describes, only_one, as_many, counts, text_down, solution_up}
 
 or_before : (n k : ℕ) → n < suc k → (n < k) ⊎ (n ≡ k)
 or_before zero zero h = inr refl
@@ -98,7 +98,7 @@ module _ (texts : List (List ℕ)) (m : List Item) (c : Sym) (budget : ℕ) (ws 
 
   lacking : LacksUnits old new → HasGone texts m c budget ws (suc k) new
   lacking x = record {
-    only = subst (λ (es : List Entry). Each (IsCompiledText (text_in texts) m c) (texts_of es)) (sym x.trees) g.only;
+    only = subst (λ (es : List Entry). Each (IsCompiledTree texts m c) es) (sym x.trees) g.only;
     empty = λ z. x.trees ∙ g.empty z;
     faultless = more_faultless;
     listed = subst (λ b. IsListed b texts m budget ws (suc k) new) (sym x.cut) (record { past = none_past old.cut g.listed x.none; none = x.left });
@@ -108,7 +108,7 @@ module _ (texts : List (List ℕ)) (m : List Item) (c : Sym) (budget : ℕ) (ws 
   passing bad x =
       let u = cut_none texts m budget ws k old new.left.left old.cut g.listed x.left in
       record {
-        only = subst (λ (es : List Entry). Each (IsCompiledText (text_in texts) m c) (texts_of es)) (sym x.trees) g.only;
+        only = subst (λ (es : List Entry). Each (IsCompiledTree texts m c) es) (sym x.trees) g.only;
         empty = λ z. x.trees ∙ g.empty z;
         faultless = more_faultless;
         listed = subst (λ b. IsListed b texts m budget ws (suc k) new) (sym (x.cut ∙ u.0)) (record {
@@ -132,16 +132,11 @@ module _ (texts : List (List ℕ)) (m : List Item) (c : Sym) (budget : ℕ) (ws 
     expansion : IsExpansion m c w
     expansion = Each-at (IsExpansion m c) ws w all.all.only (IsAmong-slice_get ws k w at)
 
-    compiled : (bytes : List ℕ) → IsSolutionText (text_in texts) (description_of d) bytes → IsCompiledText (text_in texts) m c bytes
-    compiled bytes s = (w, is.described, expansion, describes one m w d clear is, text_up one m w d clear is (text_in texts) bytes s)
+    compiled : (e : Entry) → IsSolution texts (description_of d) e → IsCompiledTree texts m c e
+    compiled e s = (w, is.described, expansion, describes one m w d clear is, solution_up one m w d clear is texts e s)
 
-    more_only : GainsSome texts (description_of d) old.trees new.trees → Each (IsCompiledText (text_in texts) m c) (texts_of new.trees)
-    more_only s = Each-members (IsCompiledText (text_in texts) m c) (texts_of new.trees) (λ bytes i.
-        let r = IsAmong-map_from (λ (e : Entry). e.text) new.trees bytes i in
-        subst (λ z. IsCompiledText (text_in texts) m c z) (sym r.2) (elim (s.only r.0 r.1) [
-          | inl j ↦ Each-at (IsCompiledText (text_in texts) m c) (texts_of old.trees) r.0.text g.only (IsAmong-map (λ (e : Entry). e.text) old.trees r.0 j)
-          | inr j ↦ compiled r.0.text j
-        ]))
+    more_only : GainsSome texts (description_of d) old.trees new.trees → Each (IsCompiledTree texts m c) new.trees
+    more_only s = Each-members (IsCompiledTree texts m c) new.trees (λ e i. elim (s.only e i) [ inl j ↦ Each-at (IsCompiledTree texts m c) old.trees e g.only j | inr j ↦ compiled e j ])
 
     more_empty : (left : ℕ) → old.left.left ≡ suc left → IsUncut texts m budget ws k old → budget ≡ 0 → new.trees ≡ []
     more_empty left e u z = absurd (none left (old.left.left) k budget e u.within z)

@@ -13,7 +13,7 @@ use Rattle.mg_facts.specs.Said.{Slot}
 use Rattle.mg_expand.specs.Walks.{Walk, AreExpansions}
 use Rattle.mg_expand.specs.Progress.{Progress}
 use Rattle.mg_compile.specs.declared.found.Found.{Found}
-use Rattle.mg_compile.specs.Compiled.{Describes, IsCompiledText, IsExpansionTotal, IsFaultless}
+use Rattle.mg_compile.specs.Compiled.{Describes, IsCompiledTree, IsExpansionTotal, IsFaultless}
 
 -- the texts of the first k expansions are all there
 abbrev pub HasTextsOf : List (List ℕ) → List Item → List Walk → ℕ → List Entry → Type 0
@@ -44,7 +44,7 @@ IsListed true texts m budget ws k f = IsCut m budget ws f
 
 -- what was found of the first k expansions, where ws are all of the class
 pub record HasGone (texts : List (List ℕ)) (m : List Item) (c : Sym) (budget : ℕ) (ws : List Walk) (k : ℕ) (f : Found) : Type 0 where
-  pub only : Each (IsCompiledText (text_in texts) m c) (texts_of f.trees)
+  pub only : Each (IsCompiledTree texts m c) f.trees
   pub empty : budget ≡ 0 → f.trees ≡ []
   pub faultless : (n : ℕ) (w : Walk) → n < k → slice_get ws n ≡ Some w → IsFaultless m c w
   pub listed : IsListed f.cut texts m budget ws k f

@@ -4,7 +4,8 @@ ghost use Rattle.td_canon.specs.CanonicalTexts.{text_in};
 ghost use Rattle.td_canon.specs.TreeSets.{IsWhole, texts_of};
 ghost use Rattle.mg_printer.specs.Printing.{HasTexts};
 ghost use Rattle.mg_scope.specs.Faults.{IsThere};
-ghost use Rattle.mg_compile.specs.Compiled.{IsRightList, IsClassFault};
+ghost use Rattle.gr_base.specs.Lists.{Each};
+ghost use Rattle.mg_compile.specs.Compiled.{IsCompiledTree, IsRightList, IsClassFault};
 ghost use Rattle.mg_compile.specs.declared.refusal.CompileRefusal.{CompileRefusal as Refused};
 
 use crate::found::{Found, take};
@@ -35,6 +36,7 @@ pub fn compile_class(
     requires texts { HasTexts symbols.now resolved.now }
     ensures class { IfOk result (λ t. t.class ≡ class) }
     ensures list { IfOk result (λ t. IsRightList (text_in symbols.now) resolved.now class budget (texts_of t.trees) t.cut) }
+    ensures trees { IfOk result (λ t. Each (IsCompiledTree symbols.now resolved.now class) t.trees) }
     ensures whole { IfOk result (λ t. IsWhole symbols.now t.trees) }
     ensures faultless { IfOk result (λ t. (e : Refused) → IsClassFault resolved.now class budget e → ⊥) }
     ensures err { IfErr result (λ e. (e ≡ CompileRefusal.Memory) ⊎ IsClassFault resolved.now class budget e) }

@@ -8,9 +8,10 @@
 //!
 //! # Model
 //!
-//! - `specs/Compiled` says what a class compiles to: the texts of its trees (`IsCompiledList`), its
-//!   steps, which are its expansions and their forest models (`IsModelSteps`), which lists a budget
-//!   allows (`IsRightList`), and which expansion the class is refused for (`IsClassFault`).
+//! - `specs/Compiled` says what a class compiles to: the texts of its trees (`IsCompiledList`), which
+//!   trees may stand beside them (`IsCompiledTree`), its steps, which are its expansions and their
+//!   forest models (`IsModelSteps`), which lists a budget allows (`IsRightList`), and which expansion
+//!   the class is refused for (`IsClassFault`).
 //! - `specs/Taking` says what a single answer of an expander adds to what was found so far, and
 //!   `specs/Going` what was found of the first expansions: while the class isn't cut, all of their
 //!   texts, for exactly their steps; once it is cut, some texts, with nothing of the budget left, and
@@ -18,9 +19,10 @@
 //!
 //! # What the crates above can rely on
 //!
-//! - [`compile_class`] answers a right list, with each text beside its tree, or a [`CompileRefusal`].
-//!   A refusal but want of memory is the class's fault, and a class that has a fault is refused.
-//!   Where the class isn't cut, its list is whole. Where it is cut, the budget is less than its steps.
+//! - [`compile_class`] answers a right list or a [`CompileRefusal`]. Beside each text stands the tree of
+//!   a minimal model that has it: one with the canonical form of the model. A refusal but want of memory
+//!   is the class's fault, and a class that has a fault is refused. Where the class isn't cut, its list
+//!   is whole. Where it is cut, the budget is less than its steps.
 //! - Faults are looked for in as many expansions as the budget has units, also behind the place where
 //!   the list is cut. So whether a class is refused doesn't depend on how many models there are.
 //! - The table of names needs a text for each number of the metagrammar, and nothing more: each name

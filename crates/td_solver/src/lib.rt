@@ -11,9 +11,9 @@
 //! # Model
 //!
 //! - `td_colour` says what forest models and minimal models are, and `td_model` what the text of a
-//!   model is. `specs/Solutions` has the texts of all minimal models (`IsSolutionText`), what a set
-//!   gains, and the number of forest models of the first nodes (`IsModelTotal`), which is what a
-//!   budget is counted in.
+//!   model is. `specs/Solutions` has the texts of all minimal models (`IsSolutionText`), which trees
+//!   with their texts are those of one (`IsSolution`), what a set gains, and the number of forest
+//!   models of the first nodes (`IsModelTotal`), which is what a budget is counted in.
 //! - The other files of `specs/` serve the search: `Candidates` has the steps that a colour leaves and
 //!   says when a list of them is enough, `Ties` the relations that a step is tested for and the parents
 //!   that they tell, `Searches` what a search over any candidates with a parent finds, and `Turns` what
@@ -25,6 +25,9 @@
 //!   for each forest model of the first nodes; or [`Solved::Cut`], only where there are more of these
 //!   than units, with nothing of the budget left and some of the texts added. After want of memory some
 //!   were added too. The budget never grows, and a whole set stays whole.
+//! - Whatever was added is the tree of a minimal model beside its text, whatever the set was before: the
+//!   model and the tree have one canonical form, and the text spells it. So the tree is fixed, up to its
+//!   variables, where a text alone would leave it open.
 //! - [`laws`] says that a description has one number of forest models.
 //!
 //! # Inside

@@ -58,6 +58,13 @@ returns-then-not-more-clause-list c =
     c.in_ok-step.step c.take.new.found c.in_ok-more.more c.in_ok-step.ensures.ok all.0 all.1
     (c.each_class_has_an_expansion.ensures c.args.resolved.now c.args.class c.requires.there.0 all.0 c.valued.ensures.scoped c.requires.there.1 all.1) c.in_ok-more.ensures.took c.if-not-more.true).list
 
+pub returns-then-not-more-clause-trees : goal.returns-then-not-more-clause-trees
+returns-then-not-more-clause-trees c =
+    let all = c.expansions_are_finite.ensures c.args.resolved.now c.args.class c.requires.there.0 c.valued.ensures.scoped c.requires.there.1 in
+    (done c.one_description.ensures c.args.symbols.now c.args.resolved.now c.args.class c.args.budget c.loop-found.expander c.next.new.self c.loop-found.looks.left c.next.new.budget.left c.loop-found.found c.loop-found.invariant
+    c.in_ok-step.step c.take.new.found c.in_ok-more.more c.in_ok-step.ensures.ok all.0 all.1
+    (c.each_class_has_an_expansion.ensures c.args.resolved.now c.args.class c.requires.there.0 all.0 c.valued.ensures.scoped c.requires.there.1 all.1) c.in_ok-more.ensures.took c.if-not-more.true).trees
+
 pub returns-then-not-more-clause-faultless : goal.returns-then-not-more-clause-faultless
 returns-then-not-more-clause-faultless c =
     let all = c.expansions_are_finite.ensures c.args.resolved.now c.args.class c.requires.there.0 c.valued.ensures.scoped c.requires.there.1 in

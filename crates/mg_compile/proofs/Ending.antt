@@ -23,9 +23,11 @@ use Rattle.mg_expand.proofs.WalkLemmas.{one_list}
 use Rattle.mg_compile.specs.declared.found.Found.{Found}
 use Rattle.mg_compile.specs.declared.refusal.CompileRefusal.{CompileRefusal}
 use Rattle.mg_compile.specs.declared.refusal.CompileRefusal.TheVariants as refusal
-use Rattle.mg_compile.specs.Compiled.{IsCompiledText, IsCompiledTree, IsExpansionTotal, IsRightList, IsFaultOf, IsClassFault}
+use Rattle.mg_compile.specs.Compiled.{IsCompiledText, IsCompiledTree, IsExpansionTotal, IsTextWithin, IsRightList, IsFaultOf, IsClassFault}
 use Rattle.mg_compile.specs.Taking.{Took, Refuses, IsFit}
 use Rattle.mg_compile.specs.Going.{IsCut, IsListed, HasGone, IsOnWay}
+use Rattle.gr_base.proofs.Deciding.{decided_less}
+use Rattle.mg_compile.proofs.Zipped.{zip_less, zip_whole}
 use Rattle.mg_compile.proofs.Carried.{AreOneDescription, describes, as_many}
 use Rattle.mg_compile.proofs.Naming.{expansion_named}
 use Rattle.mg_compile.proofs.Fitting.{description_fits}
@@ -36,12 +38,28 @@ module _ (texts : List (List ℕ)) (m : List Item) (c : Sym) (budget : ℕ) (ws 
   compiled_texts [] h = tt
   compiled_texts (e ∷ es) h = ((h.0.0, h.0.1, h.0.2, h.0.3, solution_text texts h.0.1 e h.0.4), compiled_texts es h.1)
 
+  -- an expansion that the budget pays for is among those that were paid
+  paid_place : (f : Found) (l : IsCut texts m budget ws f) (place : ℕ) (totals : List ℕ) → AllZip (IsExpansionTotal m) (take (suc place) ws) totals → suc place + sum totals ≤ budget → place < l.paid
+  paid_place f l place totals z most = elim (decided_less place l.paid) [
+    | inl h ↦ h
+    | inr h ↦
+        let r = zip_less (IsExpansionTotal m) ws (suc l.paid) (suc place) totals (later place l.paid h) z in
+        let p : budget < suc l.paid + sum r.0 = l.past r.0 r.1 in
+        let q : sum r.0 ≤ sum totals = r.2 in
+        let n : suc l.paid ≤ suc place = later place l.paid h in
+        absurd (omega (arith, most))
+  ]
+    where
+      later : (i j : ℕ) → (i < j → ⊥) → suc j ≤ suc i
+      later i j h = omega (arith, h)
+
   -- behind the last expansion the list is the right one, cut or not
   right_of : (k : ℕ) (f : Found) (b : Bool) → IsWhole texts f.trees → 0 < length ws → k ≤ budget → HasGone texts m c budget ws k f
       → IsListed b texts m budget ws k f → (b ≡ false → k ≡ length ws) → IsRightList (text_in texts) m c budget (texts_of f.trees) b
   right_of k f false whole some within g l ends =
-      let e : k ≡ length ws = ends refl in (
-        record {
+      let e : k ≡ length ws = ends refl in
+      record {
+        whole = record {
           order = whole.is_set.order;
           all = λ bytes. (
             (λ i. Each-at (IsCompiledText (text_in texts) m c) (texts_of f.trees) bytes (compiled_texts f.trees g.only) i),
@@ -50,19 +68,33 @@ module _ (texts : List (List ℕ)) (m : List Item) (c : Sym) (budget : ℕ) (ws 
                 let n : r.0 < length ws = slice_get_within ws r.0 x.0 r.1 in
                 l.all r.0 x.0 x.1 bytes (omega arith) r.1 x.3 x.4),
           );
-        },
-        omega arith,
-      )
-  right_of k f true whole some within g l ends = (
-    whole.is_set.order,
-    compiled_texts f.trees g.only,
-    (λ steps s.
+        };
+        some = omega arith;
+        enough = λ steps s.
+            let q : s.walks ≡ ws = one_list m c s.walks ws s.expansions all in
+            let zipped = zip_whole (IsExpansionTotal m) ws s.totals (subst (λ vs. AllZip (IsExpansionTotal m) vs s.totals) q s.counted) in
+            let p : budget ≡ f.left.left + k + sum s.totals = l.paid s.totals (subst (λ n. AllZip (IsExpansionTotal m) (take n ws) s.totals) (sym e) zipped) in
+            let n : length s.walks ≡ length ws = ap length q in
+            omega (arith, s.sum);
+      }
+  right_of k f true whole some within g l ends = record {
+    order = whole.is_set.order;
+    all = λ bytes x.
+        let e : x.walks ≡ ws = one_list m c x.walks ws x.expansions all in
+        let here : slice_get ws x.place ≡ Some x.walk = subst (λ vs. slice_get vs x.place ≡ Some x.walk) e x.here in
+        let zipped = subst (λ vs. AllZip (IsExpansionTotal m) (take (suc x.place) vs) x.counted.totals) e x.counted.counted in
+        l.all x.place x.walk x.is_text.0 bytes (paid_place f l x.place x.counted.totals zipped (let q : x.steps ≡ suc x.place + sum x.counted.totals = x.counted.sum in omega (arith, x.most))) here x.is_text.1 x.is_text.2;
+    only = g.within;
+    past = λ steps s.
         let e : s.walks ≡ ws = one_list m c s.walks ws s.expansions all in
-        let p : budget < length ws + sum s.totals = l.past s.totals (subst (λ vs. AllZip (IsExpansionTotal m) vs s.totals) e s.counted) in
+        let zipped = zip_whole (IsExpansionTotal m) ws s.totals (subst (λ vs. AllZip (IsExpansionTotal m) vs s.totals) e s.counted) in
+        let r = zip_less (IsExpansionTotal m) ws (suc l.paid) (length ws) s.totals l.left_out zipped in
+        let p : budget < suc l.paid + sum r.0 = l.past r.0 r.1 in
         let q : length s.walks ≡ length ws = ap length e in
-        omega (arith, s.sum)),
-    (λ z. ap texts_of (g.empty z)),
-  )
+        let n : sum r.0 ≤ sum s.totals = r.2 in
+        let o : l.paid < length ws = l.left_out in
+        omega (arith, s.sum);
+  }
 
   none_faulty : (k : ℕ) (f : Found) → HasGone texts m c budget ws k f → (k ≡ length ws) ⊎ (k ≡ budget) → (e : CompileRefusal) → IsClassFault m c budget e → ⊥
   none_faulty k f g ends e x =
@@ -75,10 +107,13 @@ module _ (texts : List (List ℕ)) (m : List Item) (c : Sym) (budget : ℕ) (ws 
   fault_here k w f e at within g x = record { walks = ws; place = k; walk = w; expansions = all; within = within; here = at; fault = x; before = g.faultless }
 
   -- where another expansion is left and none may be looked at, the list is cut
-  cut_here : (k : ℕ) (f : Found) (b : Bool) → k < length ws → k ≡ budget → IsListed b texts m budget ws k f → IsCut m budget ws f
+  cut_here : (k : ℕ) (f : Found) (b : Bool) → k < length ws → k ≡ budget → IsListed b texts m budget ws k f → IsCut texts m budget ws f
   cut_here k f true long e l = l
   cut_here k f false long e l = record {
-    past = λ totals z. omega (arith, long, e);
+    paid = k;
+    left_out = long;
+    all = l.all;
+    past = λ totals z. omega (arith, e);
     none = let p : f.left.left + k ≤ budget = l.within in omega (arith, e);
   }
 
@@ -94,7 +129,7 @@ starts texts m c budget p f e whole none left uncut = record {
   whole = whole;
   gone = λ ws all. subst (λ k. HasGone texts m c budget ws k f) (sym given) (record {
     only = subst (λ (es : List Entry). Each (IsCompiledTree texts m c) es) (sym none) tt;
-    empty = λ z. none;
+    within = subst (λ (es : List Entry). Each (IsTextWithin (text_in texts) m c budget) (texts_of es)) (sym none) tt;
     faultless = λ n w l h. absurd (no_less n l);
     listed = subst (λ b. IsListed b texts m budget ws 0 f) (sym uncut) (record {
       all = λ n w d bytes l h k s. absurd (no_less n l);
@@ -236,8 +271,9 @@ module _ (one : AreOneDescription) (texts : List (List ℕ)) (m : List Item) (c 
   at_cut ws all some long none =
       let e : p.given ≡ budget = (let f : looks + p.given ≡ budget = h.looked in omega arith) in
       let g = h.gone ws all in
-      let cut : IsCut m budget ws cut_found = (let x = cut_here texts m c budget ws all p.given old old.cut long e g.listed in record { past = x.past; none = x.none }) in
-      let now : HasGone texts m c budget ws p.given cut_found = record { only = g.only; empty = g.empty; faultless = g.faultless; listed = cut } in
+      let cut : IsCut texts m budget ws cut_found =
+      (let x = cut_here texts m c budget ws all p.given old old.cut long e g.listed in record { paid = x.paid; left_out = x.left_out; all = x.all; past = x.past; none = x.none }) in
+      let now : HasGone texts m c budget ws p.given cut_found = record { only = g.only; within = g.within; faultless = g.faultless; listed = cut } in
       record {
         list = right_of texts m c budget ws all p.given cut_found true h.whole some within now cut (λ z. absurd (false≢true (sym z)));
         trees = g.only;

@@ -1,9 +1,10 @@
 -- Each class of a metagrammar that keeps the rules of scope has a number of steps, and under each budget a refusal or a right list.
-use Rattle.std.specs.Prelude.{◌≡◌, ℕ, zero, suc, ◌+◌, ◌<◌, List, [], ◌∷◌, ◌++◌, map, Bool, true, false, Some, ◌⊎◌, ◌↔◌, length, sum, slice_get, refl}
+use Rattle.std.specs.Prelude.{◌≡◌, ℕ, zero, suc, ◌+◌, ◌<◌, ◌≤◌, List, [], ◌∷◌, ◌++◌, map, take, Bool, true, false, Option, Some, None, ◌⊎◌, ◌↔◌, length, sum, slice_get, refl}
 use Rattle.std.specs.List.{AllZip}
-use Rattle.std.proofs.Common.{inl, inr, ap, sym, subst, arith}
+use Rattle.std.proofs.Common.{inl, inr, ap, sym, ◌∙◌, subst, arith}
+use Rattle.std.proofs.lemmas.Option.{none-some, slice_get_within}
 use Rattle.gr_base.specs.Lists.{IsAmong, Each, NoneTwice, InByteOrder, gathered}
-use Rattle.gr_base.proofs.ListLemmas.{IsAmong-append, IsAmong-append_left, IsAmong-append_right, Each-at}
+use Rattle.gr_base.proofs.ListLemmas.{IsAmong-append, IsAmong-append_left, IsAmong-append_right, IsAmong-slice_get, Each-at, Each-members}
 use Rattle.gr_terms.specs.Networks.{Term, name, variable, Assertion, entry, equate, link}
 use Rattle.gr_terms.specs.declared.Sym.{Sym}
 use Rattle.mg_syntax.specs.declared.item.Item.{Item}
@@ -14,7 +15,7 @@ use Rattle.td_desc.specs.Descriptions.{Description}
 use Rattle.td_solver.specs.Solutions.{IsModelTotal, IsSolutionText}
 use Rattle.td_count.specs.TextsOfModels.{DifferByTexts}
 use Rattle.gr_base.specs.Decisions.{IsDecided}
-use Rattle.gr_base.proofs.Deciding.{decided_less}
+use Rattle.gr_base.proofs.Deciding.{decided_less, decided_no_more}
 use Rattle.td_count.proofs.Counting.{models_counted}
 use Rattle.td_count.proofs.Sorting.{sorted}
 use Rattle.td_count.proofs.Solving.{all_texts}
@@ -30,11 +31,12 @@ use Rattle.mg_expand.specs.Steps.{IsTooLarge}
 use Rattle.mg_expand.proofs.WalkLemmas.{one_list}
 use Rattle.mg_compile.specs.declared.refusal.CompileRefusal.{CompileRefusal}
 use Rattle.mg_compile.specs.declared.refusal.CompileRefusal.TheVariants as refusal
-use Rattle.mg_compile.specs.Compiled.{Describes, IsCompiledText, IsCompiledList, IsExpansionTotal, IsModelSteps, IsRightList, HasTooManyNodes, IsFaultOf, IsFaultless, IsClassFault}
-use Rattle.mg_compile.proofs.Carried.{AreOneDescription}
+use Rattle.mg_compile.specs.Compiled.{Describes, IsCompiledText, IsCompiledList, IsExpansionTotal, IsModelSteps, IsTextWithin, IsCutList, IsRightList, HasTooManyNodes, IsFaultOf, IsFaultless, IsClassFault}
+use Rattle.mg_compile.proofs.Carried.{AreOneDescription, one_count}
+use Rattle.mg_compile.proofs.Gone.{or_before}
 use Rattle.mg_compile.proofs.Naming.{expansion_named}
 use Rattle.mg_compile.proofs.Uniqueness.{same_steps}
-use Rattle.mg_compile.proofs.Zipped.{some_same}
+use Rattle.mg_compile.proofs.Zipped.{some_same, zip_last, zip_unique}
 
 totals_exist : (d : Description Variable Slot) (n : ℕ) → (total : ℕ) × IsModelTotal d n total
 totals_exist d zero = (0, refl)
@@ -278,10 +280,94 @@ module _ (m : List Item) where
             },
           )
 
+      -- the texts of the expansions that the budget pays for
+      module _ (ws : List Walk) (e : AreExpansions m c ws) (budget : ℕ) where
+        abbrev cost : ℕ → ℕ
+        cost n = n + sum (totals_of (take n ws)).0
+
+        reach : (n : ℕ) (w : Walk) → slice_get ws n ≡ Some w → cost (suc n) ≤ budget → (b : List ℕ) → IsTextOf w b → IsTextWithin text m c budget b
+        reach n w at few b t =
+            let all = totals_of (take (suc n) ws) in
+            let v : suc n + sum all.0 ≤ budget = few in
+            record {
+              walks = ws;
+              place = n;
+              walk = w;
+              expansions = e;
+              within = omega arith;
+              reached = λ steps f.
+                  let r = zip_last (IsExpansionTotal m) ws n w all.0 at all.1 in
+                  let q : f.totals ≡ r.0.before = zip_unique (IsExpansionTotal m) (one_count one m) (take n ws) f.totals r.0.before f.counted r.0.zipped in
+                  let s : sum all.0 ≡ sum r.0.before + r.0.here = r.1 in
+                  let o : sum f.totals ≡ sum r.0.before = ap (λ (ts : List ℕ). sum ts) q in
+                  let u : steps ≡ n + sum f.totals = f.sum in
+                  omega arith;
+              here = at;
+              is_text = t;
+            }
+
+        -- those among the first n
+        record PaidTexts (n : ℕ) : Type 0 where
+          pub list : List (List ℕ)
+          pub only : (b : List ℕ) → IsAmong list b → IsTextWithin text m c budget b
+          pub all : (k : ℕ) (w : Walk) (b : List ℕ) → k < n → slice_get ws k ≡ Some w → cost (suc k) ≤ budget → IsTextOf w b → IsAmong list b
+
+        one_more : (n : ℕ) → PaidTexts n → (o : Option Walk) → slice_get ws n ≡ o → IsDecided (cost (suc n) ≤ budget) → PaidTexts (suc n)
+        one_more n r None q d = record {
+          list = r.list;
+          only = r.only;
+          all = λ k w b l at paid t. elim (or_before k n l) [ inl h ↦ r.all k w b h at paid t | inr h ↦ absurd (none-some w (sym q ∙ (ap (slice_get ws) (sym h) ∙ at))) ];
+        }
+        one_more n r (Some v) q (inl few) =
+            let here = texts_at v (Each-at (IsExpansion m c) ws v e.all.only (IsAmong-slice_get ws n v q)) in
+            record {
+              list = here.0 ++ r.list;
+              only = λ b i. elim (IsAmong-append here.0 r.list b i) [ inl j ↦ reach n v q few b ((here.1 b).0 j) | inr j ↦ r.only b j ];
+              all = λ k w b l at paid t. elim (or_before k n l) [
+                | inl h ↦ IsAmong-append_right here.0 r.list b (r.all k w b h at paid t)
+                | inr h ↦ IsAmong-append_left here.0 r.list b ((here.1 b).1 (subst (λ u. IsTextOf u b) (some_same w v (sym at ∙ (ap (slice_get ws) h ∙ q))) t))
+              ];
+            }
+        one_more n r (Some v) q (inr not) = record {
+          list = r.list;
+          only = r.only;
+          all = λ k w b l at paid t. elim (or_before k n l) [ inl h ↦ r.all k w b h at paid t | inr h ↦ absurd (not (subst (λ z. cost (suc z) ≤ budget) h paid)) ];
+        }
+
+        paid_texts : (n : ℕ) → PaidTexts n
+        paid_texts zero = record { list = []; only = λ b i. absurd i; all = λ k w b l at paid t. absurd (none k l) }
+          where
+            none : (k : ℕ) → k < 0 → ⊥
+            none k l = omega arith
+        paid_texts (suc n) = one_more n (paid_texts n) (slice_get ws n) refl (decided_no_more (cost (suc n)) budget)
+
+        cut_list : (steps : ℕ) → IsModelSteps m c steps → budget < steps → (list : List (List ℕ)) × IsCutList text m c budget list
+        cut_list steps s l =
+            let r = paid_texts (length ws) in
+            let t = sorted (λ b. b) r.list in (
+              t.0,
+              record {
+                order = subst InByteOrder (map-same t.0) t.1.order;
+                all = λ b x.
+                    let same : x.walks ≡ ws = one_list m c x.walks ws x.expansions e in
+                    let here : slice_get ws x.place ≡ Some x.walk = subst (λ vs. slice_get vs x.place ≡ Some x.walk) same x.here in
+                    let zipped = subst (λ vs. AllZip (IsExpansionTotal m) (take (suc x.place) vs) x.counted.totals) same x.counted.counted in
+                    let n = totals_of (take (suc x.place) ws) in
+                    let q : x.counted.totals ≡ n.0 = zip_unique (IsExpansionTotal m) (one_count one m) (take (suc x.place) ws) x.counted.totals n.0 zipped n.1 in
+                    let o : sum x.counted.totals ≡ sum n.0 = ap (λ (ts : List ℕ). sum ts) q in
+                    let u : x.steps ≡ suc x.place + sum x.counted.totals = x.counted.sum in
+                    let paid : suc x.place + sum n.0 ≤ budget = omega (arith, x.most) in
+                    let k = t.1.all b (r.all x.place x.walk b (slice_get_within ws x.place x.walk here) here paid x.is_text) in
+                    subst (λ z. IsAmong t.0 z) k.2 k.1;
+                only = Each-members (IsTextWithin text m c budget) t.0 (λ b i. r.only b (t.1.only b i));
+                past = λ k h. subst (λ n. budget < n) (same_steps one m c steps k s h) l;
+              },
+            )
+
       abbrev HasRightList : ℕ → Type 0
       HasRightList budget = (list : List (List ℕ)) × (cut : Bool) × IsRightList text m c budget list cut
 
-      -- under a budget less than the steps the empty list is right, and else the whole one
+      -- under a budget less than the steps the texts that are paid for are right, and else the whole list
       pub right_list : (ws : List Walk) → AreExpansions m c ws → 0 < length ws → (budget : ℕ) → HasRightList budget
       right_list ws e some budget = by_steps (steps_of c ws e) (decided_less budget (steps_of c ws e).0) (compiled ws e)
         where
@@ -295,6 +381,12 @@ module _ (m : List Item) where
               positive : (a b k : ℕ) → a ≡ b + k → 0 < b → (budget < a → ⊥) → 0 < budget
               positive a b k q p n = omega (arith, q, p, n)
 
+          enough : (s : (steps : ℕ) × IsModelSteps m c steps) → (budget < s.0 → ⊥) → (steps : ℕ) → IsModelSteps m c steps → steps ≤ budget
+          enough s n steps h = no_more s.0 steps (same_steps one m c s.0 steps s.1 h) n
+            where
+              no_more : (a b : ℕ) → a ≡ b → (budget < a → ⊥) → b ≤ budget
+              no_more a b q n = omega (arith, q, n)
+
           by_steps : (s : (steps : ℕ) × IsModelSteps m c steps) → IsDecided (budget < s.0) → ((list : List (List ℕ)) × IsCompiledList text m c list) → HasRightList budget
-          by_steps s (inl l) whole = ([], true, (tt, tt, (λ steps h. subst (λ n. budget < n) (same_steps one m c s.0 steps s.1 h) l), λ z. refl))
-          by_steps s (inr n) whole = (whole.0, false, (whole.1, more s n))
+          by_steps s (inl l) whole = let r = cut_list ws e budget s.0 s.1 l in (r.0, true, r.1)
+          by_steps s (inr n) whole = (whole.0, false, record { whole = whole.1; some = more s n; enough = enough s n })

@@ -3,7 +3,7 @@ use Rattle.std.specs.Prelude.{◌≡◌, ℕ, zero, suc, ◌+◌, ◌<◌, ◌�
 use Rattle.std.proofs.Common.{inl, inr, refl, sym, ap, ◌∙◌, subst, arith}
 use Rattle.std.proofs.lemmas.Option.{slice_get_within}
 use Rattle.gr_base.specs.Lists.{IsAmong, Each, IsWithin}
-use Rattle.gr_base.proofs.ListLemmas.{Each-at, Each-members, IsAmong-slice_get}
+use Rattle.gr_base.proofs.ListLemmas.{Each-at, Each-members, IsAmong-map, IsAmong-map_from, IsAmong-slice_get}
 use Rattle.gr_terms.specs.declared.Sym.{Sym}
 use Rattle.mg_syntax.specs.declared.item.Item.{Item}
 use Rattle.td_canon.specs.CanonicalTexts.{text_in}
@@ -11,6 +11,7 @@ use Rattle.td_canon.specs.TreeSets.{Entry, texts_of}
 use Rattle.td_desc.specs.declared.Description as code
 use Rattle.td_desc.specs.Descriptions.{Description, description_of}
 use Rattle.td_solver.specs.Solutions.{IsSolution, IsSolutionText, GainsSome}
+use Rattle.td_solver.proofs.Texts.{solution_text}
 use Rattle.mg_facts.specs.declared.variable.Variable.{Variable}
 use Rattle.mg_facts.specs.Said.{Slot}
 use Rattle.mg_facts.specs.Meanings.{Clashes, IsDescriptionOf}
@@ -19,13 +20,13 @@ use Rattle.mg_expand.specs.Items.{expansion_said}
 use Rattle.mg_expand.specs.Steps.{IsTooLarge}
 use Rattle.mg_compile.specs.declared.found.Found.{Found}
 use Rattle.mg_compile.specs.declared.refusal.CompileRefusal.TheVariants as refusal
-use Rattle.mg_compile.specs.Compiled.{Describes, IsCompiledTree, IsExpansionTotal, IsFaultless}
+use Rattle.mg_compile.specs.Compiled.{Describes, IsCompiledTree, IsExpansionTotal, IsTextWithin, IsFaultless}
 use Rattle.mg_compile.specs.Taking.{Paid, LacksUnits, FoundAll, FoundSome, WasSearched, Searched, Passed}
-use Rattle.mg_compile.specs.Going.{HasTextsOf, IsPast, IsUncut, IsCut, IsListed, HasGone}
-use Rattle.mg_compile.proofs.Zipped.{some_same, zip_last, zip_at}
+use Rattle.mg_compile.specs.Going.{HasTextsOf, IsUncut, IsCut, IsListed, HasGone}
+use Rattle.mg_compile.proofs.Zipped.{some_same, zip_last}
 use Rattle.mg_compile.proofs.Carried.{AreOneDescription, clash_counts, describes, only_one, as_many, counts, text_down, solution_up}
 
-or_before : (n k : ℕ) → n < suc k → (n < k) ⊎ (n ≡ k)
+pub or_before : (n k : ℕ) → n < suc k → (n < k) ⊎ (n ≡ k)
 or_before zero zero h = inr refl
 or_before zero (suc k) h = inl (omega arith)
 or_before (suc n) zero h = absurd (none n h)
@@ -86,22 +87,37 @@ module _ (texts : List (List ℕ)) (m : List Item) (c : Sym) (budget : ℕ) (ws 
   long : k < length ws
   long = slice_get_within ws k w at
 
-  -- where none is left, the steps are more than the budget
-  none_past : (b : Bool) → IsListed b texts m budget ws k old → old.left.left ≡ 0 → IsPast m budget ws
-  none_past true l e = l.past
-  none_past false l e = λ totals z.
-      let r = zip_at (IsExpansionTotal m) ws k w totals at z in
-      let p : budget ≡ old.left.left + k + sum r.0.before = l.paid r.0.before r.0.zipped in
-      let q : sum r.0.before + r.0.here ≤ sum totals = r.1 in
-      let s : k < length ws = long in
-      omega arith
+  abbrev AreWithin : List Entry → Type 0
+  AreWithin es = Each (IsTextWithin (text_in texts) m c budget) (texts_of es)
+
+  -- where none is left, the list is cut here, or was before
+  cut_now : (b : Bool) → IsListed b texts m budget ws k old → LacksUnits old new → IsCut texts m budget ws new
+  cut_now true l x = record {
+    paid = l.paid;
+    left_out = l.left_out;
+    all = subst (λ (es : List Entry). HasTextsOf texts m ws l.paid es) (sym x.trees) l.all;
+    past = l.past;
+    none = x.left;
+  }
+  cut_now false l x = record {
+    paid = k;
+    left_out = long;
+    all = subst (λ (es : List Entry). HasTextsOf texts m ws k es) (sym x.trees) l.all;
+    past = λ totals z.
+        let r = zip_last (IsExpansionTotal m) ws k w totals at z in
+        let p : budget ≡ old.left.left + k + sum r.0.before = l.paid r.0.before r.0.zipped in
+        let q : sum totals ≡ sum r.0.before + r.0.here = r.1 in
+        let n : old.left.left ≡ 0 = x.none in
+        omega arith;
+    none = x.left;
+  }
 
   lacking : LacksUnits old new → HasGone texts m c budget ws (suc k) new
   lacking x = record {
     only = subst (λ (es : List Entry). Each (IsCompiledTree texts m c) es) (sym x.trees) g.only;
-    empty = λ z. x.trees ∙ g.empty z;
+    within = subst AreWithin (sym x.trees) g.within;
     faultless = more_faultless;
-    listed = subst (λ b. IsListed b texts m budget ws (suc k) new) (sym x.cut) (record { past = none_past old.cut g.listed x.none; none = x.left });
+    listed = subst (λ b. IsListed b texts m budget ws (suc k) new) (sym x.cut) (cut_now old.cut g.listed x);
   }
 
   passing : Clashes (expansion_said m w) → Paid old new → HasGone texts m c budget ws (suc k) new
@@ -109,7 +125,7 @@ module _ (texts : List (List ℕ)) (m : List Item) (c : Sym) (budget : ℕ) (ws 
       let u = cut_none texts m budget ws k old new.left.left old.cut g.listed x.left in
       record {
         only = subst (λ (es : List Entry). Each (IsCompiledTree texts m c) es) (sym x.trees) g.only;
-        empty = λ z. x.trees ∙ g.empty z;
+        within = subst AreWithin (sym x.trees) g.within;
         faultless = more_faultless;
         listed = subst (λ b. IsListed b texts m budget ws (suc k) new) (sym (x.cut ∙ u.0)) (record {
           all = more_texts u.1.all (λ bytes i. subst (λ (es : List Entry). IsAmong (texts_of es) bytes) (sym x.trees) i) (λ d bytes h s. absurd (h.0 bad));
@@ -138,13 +154,37 @@ module _ (texts : List (List ℕ)) (m : List Item) (c : Sym) (budget : ℕ) (ws 
     more_only : GainsSome texts (description_of d) old.trees new.trees → Each (IsCompiledTree texts m c) new.trees
     more_only s = Each-members (IsCompiledTree texts m c) new.trees (λ e i. elim (s.only e i) [ inl j ↦ Each-at (IsCompiledTree texts m c) old.trees e g.only j | inr j ↦ compiled e j ])
 
-    more_empty : (left : ℕ) → old.left.left ≡ suc left → IsUncut texts m budget ws k old → budget ≡ 0 → new.trees ≡ []
-    more_empty left e u z = absurd (none left (old.left.left) k budget e u.within z)
-      where
-        none : (l o k b : ℕ) → o ≡ suc l → o + k ≤ b → b ≡ 0 → ⊥
-        none l o k b e h z = omega arith
-
     module _ (left : ℕ) (unit : old.left.left ≡ suc left) (u : IsUncut texts m budget ws k old) where
+      -- the expansion is reached by the budget
+      within : (e : Entry) → IsSolution texts (description_of d) e → IsTextWithin (text_in texts) m c budget e.text
+      within e s = record {
+        walks = ws;
+        place = k;
+        walk = w;
+        expansions = all;
+        within = let p : old.left.left + k ≤ budget = u.within in omega (arith, unit);
+        reached = λ steps f.
+            let p : budget ≡ old.left.left + k + sum f.totals = u.paid f.totals f.counted in
+            let q : steps ≡ k + sum f.totals = f.sum in
+            omega (arith, unit);
+        here = at;
+        is_text = (is.described, describes one m w d clear is, solution_text texts is.described e (solution_up one m w d clear is texts e s));
+      }
+
+      more_within : GainsSome texts (description_of d) old.trees new.trees → AreWithin new.trees
+      more_within s = Each-members (IsTextWithin (text_in texts) m c budget) (texts_of new.trees) (λ bytes i.
+          let r = IsAmong-map_from (λ (e : Entry). e.text) new.trees bytes i in
+          subst (λ z. IsTextWithin (text_in texts) m c budget z) (sym r.2) (elim (s.only r.0 r.1) [
+            | inl j ↦ Each-at (IsTextWithin (text_in texts) m c budget) (texts_of old.trees) r.0.text g.within (IsAmong-map (λ (e : Entry). e.text) old.trees r.0 j)
+            | inr j ↦ within r.0 j
+          ]))
+
+      -- what was there before has its texts on
+      texts_kept : GainsSome texts (description_of d) old.trees new.trees → HasTextsOf texts m ws k new.trees
+      texts_kept s n v e bytes l h is_described t =
+          let r = IsAmong-map_from (λ (x : Entry). x.text) old.trees bytes (u.all n v e bytes l h is_described t) in
+          subst (λ z. IsAmong (texts_of new.trees) z) (sym r.2) (IsAmong-map (λ (x : Entry). x.text) new.trees r.0 (s.kept r.0 r.1))
+
       found_all : FoundAll texts d old new left → IsUncut texts m budget ws (suc k) new
       found_all x = record {
         all = more_texts u.all (λ bytes i. (x.all bytes).1 (inl i)) (λ e bytes h s. (x.all bytes).1 (inr (text_down one m w d clear is (text_in texts) bytes e h s)));
@@ -157,14 +197,16 @@ module _ (texts : List (List ℕ)) (m : List Item) (c : Sym) (budget : ℕ) (ws 
         within = let p : old.left.left + k ≤ budget = u.within in let f : new.left.left ≤ left = x.falls in omega (arith, unit);
       }
 
-      found_some : FoundSome d new left → IsCut m budget ws new
-      found_some x = record {
+      found_some : GainsSome texts (description_of d) old.trees new.trees → FoundSome d new left → IsCut texts m budget ws new
+      found_some s x = record {
+        paid = k;
+        left_out = long;
+        all = texts_kept s;
         past = λ totals z.
-            let r = zip_at (IsExpansionTotal m) ws k w totals at z in
+            let r = zip_last (IsExpansionTotal m) ws k w totals at z in
             let p : budget ≡ old.left.left + k + sum r.0.before = u.paid r.0.before r.0.zipped in
-            let q : sum r.0.before + r.0.here ≤ sum totals = r.1 in
+            let q : sum totals ≡ sum r.0.before + r.0.here = r.1 in
             let n : left < r.0.here = x.more r.0.here (counts one m w d clear is r.0.here r.0.is) in
-            let s : k < length ws = long in
             omega (arith, unit);
         none = x.none;
       }
@@ -174,11 +216,11 @@ module _ (texts : List (List ℕ)) (m : List Item) (c : Sym) (budget : ℕ) (ws 
         let u = cut_none texts m budget ws k old x.left old.cut g.listed x.paid in
         record {
           only = more_only x.some;
-          empty = more_empty x.left x.paid u.1;
+          within = more_within x.left x.paid u.1 x.some;
           faultless = more_faultless;
           listed = elim x.search [
             | inl y ↦ subst (λ b. IsListed b texts m budget ws (suc k) new) (sym (y.cut ∙ u.0)) (found_all x.left x.paid u.1 y)
-            | inr y ↦ subst (λ b. IsListed b texts m budget ws (suc k) new) (sym y.cut) (found_some x.left x.paid u.1 y)
+            | inr y ↦ subst (λ b. IsListed b texts m budget ws (suc k) new) (sym y.cut) (found_some x.left x.paid u.1 x.some y)
           ];
         }
 

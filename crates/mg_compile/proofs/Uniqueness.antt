@@ -1,7 +1,8 @@
 -- Laws of compiled lists, steps and faults.
-use Rattle.std.specs.Prelude.{◌≡◌, ℕ, zero, suc, ◌+◌, ◌<◌, ◌≤◌, List, length, sum, Bool, true, false, Some, ◌⊎◌, slice_get}
+use Rattle.std.specs.Prelude.{◌≡◌, ℕ, zero, suc, ◌+◌, ◌<◌, ◌≤◌, List, [], ◌∷◌, length, sum, Bool, true, false, Some, ◌⊎◌, ◌↔◌, slice_get}
 use Rattle.std.specs.List.{AllZip}
 use Rattle.std.proofs.Common.{inl, inr, refl, sym, ap, ◌∙◌, subst, arith}
+use Rattle.std.proofs.lemmas.Bool.{false≢true}
 use Rattle.gr_base.specs.Lists.{InByteOrder, IsWithin}
 use Rattle.gr_terms.specs.declared.Sym.{Sym}
 use Rattle.mg_syntax.specs.declared.item.Item.{Item}
@@ -59,8 +60,27 @@ same_fault m c budget e f h g =
 
 pub whole_list : (text : ℕ → List ℕ) (m : List Item) (c : Sym) (budget steps : ℕ) (texts : List (List ℕ)) (cut : Bool)
     → IsModelSteps m c steps → steps ≤ budget → 0 < budget → IsRightList text m c budget texts cut → (cut ≡ false) × IsCompiledList text m c texts
-whole_list text m c budget steps texts false s few some r = (refl, r.0)
-whole_list text m c budget steps texts true s few some r = absurd (none (r.2 steps s))
+whole_list text m c budget steps texts false s few some r = (refl, r.whole)
+whole_list text m c budget steps texts true s few some r = absurd (none (r.past steps s))
   where
     none : budget < steps → ⊥
     none l = omega (arith, few)
+
+pub cut_below : (text : ℕ → List ℕ) (m : List Item) (c : Sym) (budget steps : ℕ) (texts : List (List ℕ)) (cut : Bool)
+    → IsModelSteps m c steps → IsRightList text m c budget texts cut → (cut ≡ true) ↔ (budget < steps)
+cut_below text m c budget steps texts false s r = ((λ e. absurd (false≢true e)), (λ l. absurd (none (r.enough steps s) l)))
+  where
+    none : steps ≤ budget → budget < steps → ⊥
+    none f l = omega (arith, f, l)
+cut_below text m c budget steps texts true s r = ((λ e. r.past steps s), (λ l. refl))
+
+pub none_for_none : (text : ℕ → List ℕ) (m : List Item) (c : Sym) (texts : List (List ℕ)) (cut : Bool) → IsRightList text m c 0 texts cut → (texts ≡ []) × (cut ≡ true)
+none_for_none text m c texts false r = absurd (none r.some)
+  where
+    none : 0 < 0 → ⊥
+    none l = omega (arith, l)
+none_for_none text m c [] true r = (refl, refl)
+none_for_none text m c (x ∷ xs) true r = absurd (none r.only.0.place r.only.0.within)
+  where
+    none : (n : ℕ) → n < 0 → ⊥
+    none n l = omega (arith, l)

@@ -1,5 +1,5 @@
 -- Numbers that belong to the elements of a list, up to one of them.
-use Rattle.std.specs.Prelude.{◌≡◌, ℕ, zero, suc, ◌+◌, ◌≤◌, List, [], ◌∷◌, sum, take, Some, slice_get}
+use Rattle.std.specs.Prelude.{◌≡◌, ℕ, zero, suc, ◌+◌, ◌≤◌, List, [], ◌∷◌, length, sum, take, Some, slice_get}
 use Rattle.std.specs.List.{AllZip}
 use Rattle.std.proofs.Common.{refl, ap, subst, arith}
 use Rattle.std.proofs.lemmas.List.Sums.{sum_by-cons}
@@ -63,3 +63,29 @@ zip_unique P one (x ∷ xs) (t ∷ ts) (s ∷ ss) h g =
     let e : t ≡ s = one x t s h.0 g.0 in
     let r = zip_unique P one xs ts ss h.1 g.1 in
     subst (λ z. t ∷ ts ≡ z ∷ ss) e (ap (λ z. t ∷ z) r)
+
+-- the numbers of a shorter front give no more than those of a longer one
+pub zip_less : {A : Type 0} (P : A → ℕ → Type 0) (xs : List A) (k n : ℕ) (ts : List ℕ) → k ≤ n → AllZip P (take n xs) ts
+    → (front : List ℕ) × AllZip P (take k xs) front × (sum front ≤ sum ts)
+zip_less P xs zero n ts l h = ([], tt, omega arith)
+zip_less P xs (suc k) zero ts l h = absurd (none k l)
+  where
+    none : (k : ℕ) → suc k ≤ 0 → ⊥
+    none k l = omega arith
+zip_less P [] (suc k) (suc n) ts l h = ([], tt, omega arith)
+zip_less P (x ∷ xs) (suc k) (suc n) [] l h = absurd h
+zip_less P (x ∷ xs) (suc k) (suc n) (t ∷ ts) l h =
+    let r = zip_less P xs k n ts (fewer k n l) h.1 in
+    let e : sum (t ∷ ts) ≡ t + sum ts = sum-cons t ts in
+    let d : sum (t ∷ r.0) ≡ t + sum r.0 = sum-cons t r.0 in
+    let s : sum r.0 ≤ sum ts = r.2 in
+    (t ∷ r.0, (h.0, r.1), omega arith)
+  where
+    fewer : (k n : ℕ) → suc k ≤ suc n → k ≤ n
+    fewer k n l = omega arith
+
+-- all numbers are those of the front that is the whole list
+pub zip_whole : {A : Type 0} (P : A → ℕ → Type 0) (xs : List A) (ts : List ℕ) → AllZip P xs ts → AllZip P (take (length xs) xs) ts
+zip_whole P [] ts h = h
+zip_whole P (x ∷ xs) [] h = absurd h
+zip_whole P (x ∷ xs) (t ∷ ts) h = (h.0, zip_whole P xs ts h.1)

@@ -1,6 +1,6 @@
 -- What compiling a class gives: the texts of its trees, in how many steps they are found, which lists a budget allows, and which
 -- expansions are refused.
-use Rattle.std.specs.Prelude.{◌≡◌, ℕ, ◌+◌, ◌<◌, List, [], Bool, true, false, Some, ◌⊎◌, ◌↔◌, length, sum, slice_get}
+use Rattle.std.specs.Prelude.{◌≡◌, ℕ, suc, ◌+◌, ◌<◌, ◌≤◌, List, Bool, true, false, Some, ◌⊎◌, ◌↔◌, length, sum, take, slice_get}
 use Rattle.std.specs.List.{AllZip}
 use Rattle.gr_base.specs.Lists.{IsAmong, Each, InByteOrder}
 use Rattle.gr_terms.specs.declared.Sym.{Sym}
@@ -49,13 +49,58 @@ pub record IsModelSteps (m : List Item) (c : Sym) (steps : ℕ) : Type 0 where
   pub counted : AllZip (IsExpansionTotal m) walks totals
   pub sum : steps ≡ length walks + sum totals
 
--- the list of texts that a class may have under a budget. One that isn't cut is the whole list, and the budget isn't 0. One that is
--- cut has some of the texts, in byte order, the steps of the class are more than the budget, and with a budget of 0 it is empty
+-- the steps of the first k walks: one for each, and one for each of its forest models
+pub record AreFirstSteps (m : List Item) (walks : List Walk) (k steps : ℕ) : Type 0 where
+  pub totals : List ℕ
+  pub counted : AllZip (IsExpansionTotal m) (take k walks) totals
+  pub sum : steps ≡ k + sum totals
+
+-- the bytes are the text of the tree of a minimal model of the expansion, which doesn't clash
+abbrev pub IsExpansionText : (ℕ → List ℕ) → List Item → Walk → List ℕ → Type 0
+IsExpansionText text m w bytes = (d : Description Variable Slot) × Describes m w d × IsSolutionText text d bytes
+
+-- a text of an expansion that the budget pays for: its steps with those of all expansions before it are no more than the budget
+pub record IsPaidText (text : ℕ → List ℕ) (m : List Item) (c : Sym) (budget : ℕ) (bytes : List ℕ) : Type 0 where
+  pub walks : List Walk
+  pub place : ℕ
+  pub walk : Walk
+  pub steps : ℕ
+  pub expansions : AreExpansions m c walks
+  pub here : slice_get walks place ≡ Some walk
+  pub counted : AreFirstSteps m walks (suc place) steps
+  pub most : steps ≤ budget
+  pub is_text : IsExpansionText text m walk bytes
+
+-- a text of an expansion that the budget reaches: it is among the first ones, as many as the budget, and the steps of those before it
+-- are less than the budget
+pub record IsTextWithin (text : ℕ → List ℕ) (m : List Item) (c : Sym) (budget : ℕ) (bytes : List ℕ) : Type 0 where
+  pub walks : List Walk
+  pub place : ℕ
+  pub walk : Walk
+  pub expansions : AreExpansions m c walks
+  pub within : place < budget
+  pub reached : (steps : ℕ) → AreFirstSteps m walks place steps → steps < budget
+  pub here : slice_get walks place ≡ Some walk
+  pub is_text : IsExpansionText text m walk bytes
+
+-- a list that isn't cut is the whole one, and the budget is at least 1 and at least the steps of the class
+pub record IsUncutList (text : ℕ → List ℕ) (m : List Item) (c : Sym) (budget : ℕ) (texts : List (List ℕ)) : Type 0 where
+  pub whole : IsCompiledList text m c texts
+  pub some : 0 < budget
+  pub enough : (steps : ℕ) → IsModelSteps m c steps → steps ≤ budget
+
+-- A list that is cut has, in byte order, all texts of the expansions that the budget pays for, and no others than texts of expansions that
+-- it reaches; and the budget is less than the steps of the class.
+pub record IsCutList (text : ℕ → List ℕ) (m : List Item) (c : Sym) (budget : ℕ) (texts : List (List ℕ)) : Type 0 where
+  pub order : InByteOrder texts
+  pub all : (bytes : List ℕ) → IsPaidText text m c budget bytes → IsAmong texts bytes
+  pub only : Each (IsTextWithin text m c budget) texts
+  pub past : (steps : ℕ) → IsModelSteps m c steps → budget < steps
+
+-- the list of texts that a class may have under a budget, and whether it is cut
 abbrev pub IsRightList : (ℕ → List ℕ) → List Item → Sym → ℕ → List (List ℕ) → Bool → Type 0
-IsRightList text m c budget texts false = IsCompiledList text m c texts × (0 < budget)
-IsRightList text m c budget texts true =
-    InByteOrder texts × Each (IsCompiledText text m c) texts × ((steps : ℕ) → IsModelSteps m c steps → budget < steps)
-    × (budget ≡ 0 → texts ≡ [])
+IsRightList text m c budget texts false = IsUncutList text m c budget texts
+IsRightList text m c budget texts true = IsCutList text m c budget texts
 
 -- the expansion doesn't clash and has more nodes than the limit
 abbrev pub HasTooManyNodes : List Item → Walk → Type 0

@@ -1,5 +1,5 @@
 //! Laws of compiled classes, as contracts of functions that do nothing.
-ghost use Rattle.std.specs.Prelude.{◌≡◌, ℕ, ◌<◌, ◌≤◌, ◌⊎◌, List, Bool, false, Some};
+ghost use Rattle.std.specs.Prelude.{◌≡◌, ℕ, ◌<◌, ◌≤◌, ◌⊎◌, ◌↔◌, List, [], Bool, true, false, Some};
 ghost use Rattle.gr_base.specs.Lists.{NoneTwice};
 ghost use Rattle.gr_terms.specs.declared.Sym.{Sym};
 ghost use Rattle.mg_syntax.specs.declared.item.Class.{Class};
@@ -64,4 +64,13 @@ pub fn steps_are_enough()
     ensures { (text : ℕ → List ℕ) (m : List Item) (c : Sym) (budget steps : ℕ) (texts : List (List ℕ)) (cut : Bool)
         → IsModelSteps m c steps → steps ≤ budget → 0 < budget → IsRightList text m c budget texts cut
         → (cut ≡ false) × IsCompiledList text m c texts }
+{}
+
+/// A right list is cut exactly where the budget is less than the steps of the class. For a budget of 0
+/// it is cut, and it is empty.
+pub fn cut_below_the_steps()
+    ensures cut { (text : ℕ → List ℕ) (m : List Item) (c : Sym) (budget steps : ℕ) (texts : List (List ℕ)) (cut : Bool)
+        → IsModelSteps m c steps → IsRightList text m c budget texts cut → (cut ≡ true) ↔ (budget < steps) }
+    ensures none { (text : ℕ → List ℕ) (m : List Item) (c : Sym) (texts : List (List ℕ)) (cut : Bool)
+        → IsRightList text m c 0 texts cut → (texts ≡ []) × (cut ≡ true) }
 {}

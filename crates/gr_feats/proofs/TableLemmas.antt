@@ -2,8 +2,8 @@
 use Rattle.std.proofs.Common.{◌≡◌, ℕ, List, [], ◌∷◌, ◌++◌, Bool, true, false, refl, ap, sym, ◌∙◌, subst, append_assoc}
 use Rattle.std.proofs.lemmas.List.{append-nil}
 use Rattle.gr_base.specs.Lists.{NoneTwice}
-use Rattle.gr_symbols.specs.Numbers.{with_text, with_texts}
-use Rattle.gr_symbols.proofs.NumberLemmas.{with_texts-append, with_texts-once}
+use Rattle.gr_symbols.specs.Numbers.{Grows, with_text, with_texts}
+use Rattle.gr_symbols.proofs.NumberLemmas.{with_texts-append, with_texts-once, with_texts-grows}
 use Rattle.gr_grammar.specs.Grammars.{Grammar, tok, nil, seq, alt, star, is_clear, goes, Matches, a_token, no_token, both, the_left, the_right, no_more, one_more, tree_of, items}
 use Rattle.gr_grammar.proofs.OneTree.{one_tree}
 use Rattle.gr_reader.specs.Lexemes.{Lexeme}
@@ -91,3 +91,7 @@ one_front_table {g} {old} {new} {ts = ts} {r = r} {s = s} clear none x y =
 -- no text stands twice in it
 pub puts_once : {g : Grammar Class} {old new : List (List ℕ)} {ts rest : List Lexeme} → NoneTwice old → PutsNames g old new ts rest → NoneTwice new
 puts_once {old = old} once x = subst NoneTwice (sym x.table) (with_texts-once old (names_in x.tree) once)
+
+-- and it begins with the old one
+pub puts_grow : {g : Grammar Class} {old new : List (List ℕ)} {ts rest : List Lexeme} → PutsNames g old new ts rest → Grows old new
+puts_grow {old = old} x = subst (Grows old) (sym x.table) (with_texts-grows old (names_in x.tree))

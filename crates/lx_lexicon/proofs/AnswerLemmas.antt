@@ -27,7 +27,7 @@ use Rattle.lx_lexicon.specs.declared.entry.Entry.{Entry}
 use Rattle.lx_lexicon.specs.Grammars.{WrittenEntry, lexicon_text, lexicon_of}
 use Rattle.lx_lexicon.specs.Complaints.{lexicon_bad}
 use Rattle.lx_lexicon.specs.Entries.{IsCoName, IsEntry, AreEntries}
-use Rattle.gr_feats.proofs.TableLemmas.{one_table as one_table_of, puts_once}
+use Rattle.gr_feats.proofs.TableLemmas.{one_table as one_table_of, puts_once, puts_grow}
 use Rattle.lx_lexicon.specs.Answers.{IsTokensAnswer, IsRead, HasTable, IsLexiconAnswer, IsLexiconReading}
 use Rattle.lx_lexicon.proofs.FileLemmas.{lexicon_is_clear}
 use Rattle.lx_lexicon.proofs.OneEntry.{one_lexicon}
@@ -175,6 +175,9 @@ one_table bytes old new later h k =
 
 pub table_once : (bytes : List ℕ) (old new : List (List ℕ)) → NoneTwice old → HasTable bytes old new → NoneTwice new
 table_once bytes old new once h = puts_once once h.puts
+
+pub table_grows : (bytes : List ℕ) (old new : List (List ℕ)) → HasTable bytes old new → Grows old new
+table_grows bytes old new h = puts_grow h.puts
 
 -- what is right by the tables before and behind is right by the one behind
 pub reading_of : (bytes : List ℕ) (old new : List (List ℕ)) (x : Result (List Entry) ReadRefusal) → IsLexiconAnswer bytes old new x → IsLexiconReading bytes new x

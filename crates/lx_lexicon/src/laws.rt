@@ -9,7 +9,8 @@ ghost use Rattle.lx_lexicon.specs.Entries.{KeepsLimits};
 ghost use Rattle.lx_lexicon.specs.declared.entry.Entry.{Entry as Listed};
 
 /// Behind one table in which no text stands twice, at most one answer is right for a text besides want
-/// of memory, and at most one new table where it is a lexicon. In the new table no text stands twice.
+/// of memory, and at most one new table where it is a lexicon. In the new table no text stands twice,
+/// and it begins with the old one.
 pub fn one_answer()
     ensures answer { (bytes : List ℕ) (old : List (List ℕ)) → NoneTwice old
         → (new later : List (List ℕ)) (x y : Result (List Listed) Refused) → (x ≡ Err NoMemory → ⊥) → (y ≡ Err NoMemory → ⊥)
@@ -18,6 +19,8 @@ pub fn one_answer()
         → IsLexiconAnswer bytes old new (Ok es) → IsLexiconAnswer bytes old later (Ok fs) → new ≡ later }
     ensures once { (bytes : List ℕ) (old new : List (List ℕ)) (es : List Listed) → NoneTwice old
         → IsLexiconAnswer bytes old new (Ok es) → NoneTwice new }
+    ensures grows { (bytes : List ℕ) (old new : List (List ℕ)) (es : List Listed)
+        → IsLexiconAnswer bytes old new (Ok es) → Grows old new }
 {}
 
 /// By one table of texts, at most one answer is right besides want of memory. An answer that is right

@@ -22,7 +22,7 @@ use Rattle.gr_feats.specs.Complaints.{complaint_at}
 use Rattle.gr_feats.proofs.ComplaintLemmas.{no_complaint_at}
 use Rattle.sm_input.specs.Complaints.{inputs_bad, variable_left, file_bad}
 use Rattle.gr_symbols.specs.Numbers.{with_texts}
-use Rattle.gr_symbols.proofs.NumberLemmas.{with_texts-once}
+use Rattle.gr_symbols.proofs.NumberLemmas.{with_texts-once, with_texts-grows}
 use Rattle.gr_grammar.proofs.OneTree.{one_tree}
 use Rattle.gr_reader.proofs.LexemeLemmas.{Lexeme-set}
 use Rattle.sm_input.specs.Tables.{inputs_names}
@@ -175,6 +175,9 @@ one_table bytes old new later h k =
 
 pub table_once : (bytes : List ℕ) (old new : List (List ℕ)) → NoneTwice old → HasTable bytes old new → NoneTwice new
 table_once bytes old new once h = subst NoneTwice (sym h.puts.table) (with_texts-once old (inputs_names h.puts.tree) once)
+
+pub table_grows : (bytes : List ℕ) (old new : List (List ℕ)) → HasTable bytes old new → Grows old new
+table_grows bytes old new h = subst (Grows old) (sym h.puts.table) (with_texts-grows old (inputs_names h.puts.tree))
 
 -- what is right by the tables before and behind is right by the one behind
 pub reading_of : (bytes : List ℕ) (old new : List (List ℕ)) (x : Result Inputs ReadRefusal) → IsInputsAnswer bytes old new x → IsInputsReading bytes new x

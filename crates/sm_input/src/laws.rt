@@ -23,7 +23,8 @@ pub fn literals_count_once()
 {}
 
 /// Behind one table in which no text stands twice, one answer besides want of memory is right for a
-/// text, and one new table where it is inputs. In the new table no text stands twice.
+/// text, and one new table where it is inputs. In the new table no text stands twice, and it begins
+/// with the old one.
 pub fn one_answer()
     ensures answer { (bytes : List ℕ) (old : List (List ℕ)) → NoneTwice old
         → (new later : List (List ℕ)) (x y : Result Inputs ReadRefusal) → (x ≡ Err Memory → ⊥) → (y ≡ Err Memory → ⊥)
@@ -32,6 +33,8 @@ pub fn one_answer()
         → IsInputsAnswer bytes old new (Ok is) → IsInputsAnswer bytes old later (Ok js) → new ≡ later }
     ensures once { (bytes : List ℕ) (old new : List (List ℕ)) (is : Inputs) → NoneTwice old
         → IsInputsAnswer bytes old new (Ok is) → NoneTwice new }
+    ensures grows { (bytes : List ℕ) (old new : List (List ℕ)) (is : Inputs)
+        → IsInputsAnswer bytes old new (Ok is) → Grows old new }
 {}
 
 /// By one table of texts, one answer besides want of memory is right. An answer that is right by the

@@ -5,7 +5,7 @@ use Rattle.gr_grammar.specs.Grammars.{Grammar, System, Matches, a_token, no_toke
 use Rattle.gr_reader.specs.Lexemes.{Lexeme}
 use Rattle.gr_reader.specs.Classes.{Class, sign, keyword, any_word, word_but, word_among, any_string, any_name, variable, flat}
 
--- lexemes of the class are names or variables: the grammar says no more than their kind. Signs and words that the grammar itself has are none
+-- the class leaves open which text a lexeme has, so that it is a name or a variable; a sign or a word that the grammar itself has is none
 abbrev pub is_open : Class → Bool
 is_open (sign s) = false
 is_open (keyword w) = false

@@ -15,7 +15,7 @@ use Rattle.td_tree.specs.declared.TreeNode.{TreeNode}
 use Rattle.td_tree.proofs.PreorderLemmas.{length-preorder}
 use Rattle.tg_reader.proofs.Rows.{gathered-append, table_then}
 use Rattle.tg_reader.specs.Naming.{forest_names, node_names}
-use Rattle.tg_reader.specs.Reading.{AppendsForest, CanReadBehind, CanReadNode, CanReadNodes, CanReadOne, CanReadRow, Differs, IsNodeEnd, IsTreeEnd, Later, Lays, LaysOne, StandsForNode, Gets}
+use Rattle.tg_reader.specs.Reading.{AppendsForest, CanReadBehind, CanReadNode, CanReadNodes, CanReadOne, CanReadRow, Differs, IsNodeEnd, IsTreeEnd, Lays, LaysOne, StandsForNode, Gets}
 use Rattle.td_canon.specs.Writing.{slots_of}
 use Rattle.tg_reader.proofs.Enclosed.{stops_differs, stops_tree}
 

@@ -1,14 +1,14 @@
 -- The text of a tree has one list of names, by whatever tables and trees it is that of a tree.
-use Rattle.std.specs.Prelude.{◌≡◌, ℕ, ◌<◌, ◌≤◌, Bool, true, false, not, ◌==◌, List, [], ◌∷◌, ◌++◌, map, length, codes, refl}
+use Rattle.std.specs.Prelude.{◌≡◌, ℕ, ◌<◌, ◌≤◌, true, not, ◌==◌, List, [], ◌∷◌, ◌++◌, map, length, codes, refl}
 use Rattle.std.proofs.Common.{inl, inr, ap, ap₂, sym, ◌∙◌, subst, arith}
 use Rattle.std.proofs.lemmas.Bool.{cases_lt}
 use Rattle.std.proofs.lemmas.Bool.Decides.{nat_tests}
 use Rattle.std.proofs.lemmas.List.{get_or_past}
 use Rattle.gr_base.specs.Lists.{Each, InByteOrder, IsAmong, NoneTwice, gathered}
-use Rattle.gr_base.specs.Forests.{Forest, IsOneTree, labels}
+use Rattle.gr_base.specs.Forests.{IsOneTree, labels}
 use Rattle.gr_base.proofs.ListLemmas.{IsAmong-append_left, IsAmong-append_right}
 use Rattle.gr_symbols.specs.Numbers.{Grows, Names, first_texts, with_text, with_texts}
-use Rattle.gr_symbols.proofs.NumberLemmas.{Grows-trans, IsAmong-Names, Names-IsAmong, Names-grows, Names-within, with_text-by, with_texts-grows, with_texts-once}
+use Rattle.gr_symbols.proofs.NumberLemmas.{Grows-trans, IsAmong-Names, Names-IsAmong, Names-within, with_text-by, with_texts-grows, with_texts-once}
 use Rattle.gr_terms.specs.Canonical.{Decorated, Label, Literal, Node, Pairs, category, literal_terms, map_literal, named, numbered, properties}
 use Rattle.gr_terms.specs.Constants.{CAT}
 use Rattle.gr_text.specs.Words.{IsStringByte}
@@ -18,14 +18,13 @@ use Rattle.td_canon.proofs.FormSpelling.{CanSpellForm, CanSpellLiteral, forms_ap
 use Rattle.td_canon.proofs.OrderLemmas.{text_named, texts_apart}
 use Rattle.td_canon.proofs.SpellingLemmas.{CanSpell, CanSpellPair}
 use Rattle.td_canon.proofs.TreeSpelling.{CanSpellNode}
-use Rattle.td_canon.proofs.UniqueForms.{attribute_text}
 use Rattle.tg_reader.specs.Naming.{form_names, label_names, literal_names, names_in, node_names, pair_names, PutsTreeNames}
 use Rattle.tg_reader.specs.Reading.{CanRead, CanReadLiteral, CanReadNode, CanReadPair, CanReadTree, is_of}
-use Rattle.tg_reader.specs.Writable.{IsTable, IsTreeText}
+use Rattle.tg_reader.specs.Writable.{IsTreeText}
 use Rattle.tg_reader.specs.declared.reader.Run.TheVariants.{Word}
 use Rattle.tg_reader.proofs.Closing.{IsOrderedForm, IsOrderedNode}
 use Rattle.tg_reader.proofs.Moved.{Found, FoundForm, FoundLabel, FoundLiteral, FoundNode, FoundPair, attributes_moved, category_moved, form_moved, labels-map, moved, moved_form, moved_is, moved_label, moved_node, moved_pairs, moved_text, properties_moved}
-use Rattle.tg_reader.proofs.Readable.{IsWell, Readable, StandsWell, one-map, readable}
+use Rattle.tg_reader.proofs.Readable.{IsWell, StandsWell, one-map, readable}
 use Rattle.tg_reader.proofs.Runs.{word_run}
 use Rattle.tg_reader.proofs.Tables.{first_is, first_names, only_number}
 

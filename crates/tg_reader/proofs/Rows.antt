@@ -6,7 +6,7 @@ use Rattle.gr_base.specs.Lists.{Each, gathered}
 use Rattle.gr_base.proofs.ListLemmas.{Each-right, same_tail}
 use Rattle.gr_symbols.specs.Numbers.{Grows, with_texts}
 use Rattle.gr_symbols.proofs.NumberLemmas.{with_texts-append}
-use Rattle.tg_reader.specs.Reading.{Differs, EachOfSome, Ends, Gets, InTurn, Later, is_of}
+use Rattle.tg_reader.specs.Reading.{Differs, EachOfSome, Ends, Gets, InTurn, is_of}
 use Rattle.tg_reader.specs.declared.reader.Run.{Run}
 use Rattle.tg_reader.proofs.Steps.{later}
 

@@ -1,9 +1,9 @@
 -- Bytes that stand together, in front of one that does not.
-use Rattle.std.specs.Prelude.{◌≡◌, ℕ, zero, suc, ◌+◌, ◌<◌, ◌≤◌, ◌^◌, Bool, true, false, ◌==◌, ◌&&◌, ◌||◌, List, [], ◌∷◌, ◌++◌, take, drop, length, get_or, refl, ◌⊎◌}
+use Rattle.std.specs.Prelude.{◌≡◌, ℕ, zero, suc, ◌+◌, ◌<◌, ◌≤◌, ◌^◌, true, false, ◌==◌, ◌&&◌, ◌||◌, List, [], ◌∷◌, ◌++◌, take, drop, length, get_or, refl}
 use Rattle.std.specs.Fmt.{decimal}
 use Rattle.std.specs.Int.{IsInRange}
 use Rattle.std.specs.Str.Parse.{AllDigits}
-use Rattle.std.proofs.Common.{inl, inr, ap, ap₂, sym, ◌∙◌, subst, arith}
+use Rattle.std.proofs.Common.{inl, inr, ap, sym, ◌∙◌, subst, arith}
 use Rattle.std.proofs.Math.Seq.{drop-cons}
 use Rattle.std.proofs.lemmas.Bool.{false≢true, and_parts, or_cases, or_left, or_right}
 use Rattle.std.proofs.lemmas.Bool.Decides.{nat_tests}
@@ -12,7 +12,7 @@ use Rattle.std.proofs.lemmas.List.{length-take-le, take-append-drop, take_more}
 use Rattle.std.proofs.lemmas.Str.{IsUtf8-from_ascii}
 use Rattle.std.proofs.lemmas.Str.Parse.{digit_from_value}
 use Rattle.gr_base.specs.Lists.{Each}
-use Rattle.gr_base.proofs.ListLemmas.{Each-append, same_head, same_tail}
+use Rattle.gr_base.proofs.ListLemmas.{Each-append}
 use Rattle.gr_text.specs.Words.{IsStringByte, begins_with_word_byte, is_word, is_word_byte, is_word_rest}
 use Rattle.gr_text.proofs.DecimalLemmas.{IsDecimal-decimal, IsDecimal-short}
 use Rattle.td_canon.proofs.SpellingLemmas.{span_apart}

@@ -1,10 +1,10 @@
 -- How the table of names grows with the trees and classes that are read.
-use Rattle.std.specs.Prelude.{◌≡◌, ℕ, suc, ◌≤◌, List, [], ◌∷◌, ◌++◌, map, length, Ok}
+use Rattle.std.specs.Prelude.{◌≡◌, ℕ, suc, ◌≤◌, List, [], ◌∷◌, ◌++◌, length, Ok}
 use Rattle.std.proofs.Common.{ap, sym, ◌∙◌, subst, arith, length-append}
 use Rattle.std.proofs.lemmas.List.{map-append}
 use Rattle.gr_base.specs.Lists.{Each, gathered}
 use Rattle.gr_symbols.specs.Numbers.{Grows, Names, first_texts, with_text, with_texts}
-use Rattle.gr_symbols.proofs.NumberLemmas.{Grows-refl, Grows-trans, with_text-grows, with_text-once, with_texts-grows, with_texts-once}
+use Rattle.gr_symbols.proofs.NumberLemmas.{Grows-trans, with_text-grows, with_text-once, with_texts-grows, with_texts-once}
 use Rattle.gr_terms.specs.declared.Sym.{Sym}
 use Rattle.td_canon.specs.CanonicalTexts.{text_in}
 use Rattle.td_canon.specs.TreeSets.{Entry, texts_of}
@@ -17,7 +17,7 @@ use Rattle.tg_reader.specs.Writable.{IsTable}
 use Rattle.tg_reader.proofs.OneNaming.{one_table as one_tree_table}
 use Rattle.tg_reader.proofs.Rows.{InTurn-more}
 use Rattle.tg_text.specs.Answers.{Classes, IsGrammarAnswer, IsReadClass}
-use Rattle.tg_text.specs.GrammarText.{ClassText, class_text, class_text_of, grammar_text, tree_lines}
+use Rattle.tg_text.specs.GrammarText.{ClassText, class_text, class_text_of, tree_lines}
 use Rattle.tg_text.specs.Naming.{PutsClass, PutsClasses, PutsTrees}
 use Rattle.tg_text.proofs.ClassRows.{written}
 use Rattle.tg_text.proofs.GrownTrees.{written_stays}

@@ -1,16 +1,8 @@
 -- A text is at least as long as what it tells: each tree of a class has a line, and each class a part of the whole.
-use Rattle.std.proofs.Common.{◌≡◌, ℕ, suc, ◌+◌, ◌≤◌, List, [], ◌∷◌, ◌++◌, length, map, Bool, true, false, refl, arith, length-append}
-use Rattle.std.specs.Prelude.{◌==◌, codes, if◌then◌else◌}
+use Rattle.std.proofs.Common.{ℕ, suc, ◌+◌, ◌≤◌, List, [], ◌∷◌, ◌++◌, length, arith, length-append}
+use Rattle.std.specs.Prelude.{codes}
 use Rattle.std.specs.Fmt.{decimal}
-use Rattle.std.specs.List.{join_with_byte}
-use Rattle.std.proofs.lemmas.Bool.{false≢true}
 use Rattle.gr_base.specs.Lists.{gathered}
-use Rattle.gr_base.specs.Forests.{Forest, empty, tree, labels}
-use Rattle.gr_text.specs.Words.{is_word, quoted}
-use Rattle.gr_terms.specs.Canonical.{Decorated, Label, Literal, Node, Pairs, named, numbered, category, properties, values, node_values, literal_terms, walked}
-use Rattle.gr_terms.specs.Constants.{CAT}
-use Rattle.td_canon.specs.Spelling.{total}
-use Rattle.td_canon.specs.TreeText.{category_text, decorated_text, enclosed, label_text, literal_text, node_text, pair_texts, tree_texts}
 use Rattle.tg_text.specs.GrammarText.{ClassText, class_text, closing_word, ended, grammar_text, tree_line, tree_lines}
 
 line_size : (n : ℕ) (t : List ℕ) → suc (length t) ≤ length (tree_line n t)

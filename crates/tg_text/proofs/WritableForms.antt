@@ -1,11 +1,9 @@
 -- The form of a tree that can be written: its names can be written, its numbers are small, and its properties break no rule.
-use Rattle.std.specs.Prelude.{◌≡◌, ℕ, suc, ◌+◌, ◌<◌, ◌≤◌, ◌^◌, Bool, true, false, ◌==◌, List, [], ◌∷◌, map, length, codes, Option, Some, None, if◌then◌else◌, refl}
+use Rattle.std.specs.Prelude.{◌≡◌, ℕ, suc, ◌+◌, ◌<◌, ◌≤◌, ◌^◌, true, List, [], ◌∷◌, map, length, codes, Option, Some, None, if◌then◌else◌, refl}
 use Rattle.std.proofs.Common.{inl, inr, ap, sym, ◌∙◌, subst, arith}
-use Rattle.std.proofs.lemmas.Bool.{false≢true}
-use Rattle.std.proofs.lemmas.Bool.Decides.{Decides-eqb}
 use Rattle.std.proofs.lemmas.List.{length-map}
 use Rattle.gr_base.specs.Lists.{IsAmong, Each}
-use Rattle.gr_base.specs.Forests.{Forest, empty, tree, IsOneTree, labels, map_forest, size}
+use Rattle.gr_base.specs.Forests.{Forest, empty, tree, labels, map_forest, size}
 use Rattle.gr_base.proofs.ListLemmas.{Each-at, Each-append, Each-left, Each-members, Each-right, IsAmong-map_from}
 use Rattle.gr_text.specs.Words.{is_word, quoted}
 use Rattle.gr_terms.specs.BagViews.{pairs_of}
@@ -29,7 +27,6 @@ use Rattle.td_canon.specs.TreeText.{decorated_text, label_text}
 use Rattle.td_canon.specs.Writing.{AreOrderedBags, IsOrderedBag, form_node, form_of, in_order, label_in, labelled, meet_all, tree_terms}
 use Rattle.td_canon.proofs.CountLemmas.{length-meet_all}
 use Rattle.td_canon.proofs.FormLemmas.{IsOrderedTree, canonical_form, walked-form}
-use Rattle.td_canon.proofs.MeetingLemmas.{is_met, place, place-absent, stands_in}
 use Rattle.td_canon.proofs.OrderLemmas.{in_order-order, in_order-within, texts_apart}
 use Rattle.td_canon.proofs.SortLemmas.{once_by_text}
 use Rattle.td_canon.proofs.TellingLemmas.{tree_tells}

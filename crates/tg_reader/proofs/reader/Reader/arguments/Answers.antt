@@ -9,9 +9,11 @@ use Rattle.tg_reader.proofs.reader.Reader.arguments.Goals as goal
 
 pub returns-then-eat-clause-takes : goal.returns-then-eat-clause-takes
 returns-then-eat-clause-takes c = λ text vs rest can end e.
-    let n = no_arguments text vs c.eat.new.self.rest.now rest can (sym c.if-eat.ensures.yes ∙ e) in
-    (n.same, subst (λ (ws : List Label). Gets c.args.symbols.now c.args.symbols.now (gathered (label_names text) ws) (λ texts. AppendsValues text texts ws [] c.new-arguments.result)) (sym n.none)
-        (record { table = refl; later = λ later grows. c.new-arguments.ensures }))
+    let n = no_arguments text vs c.eat.new.self.rest.now rest can (sym c.if-eat.ensures.yes ∙ e) in (
+      n.same,
+      subst (λ (ws : List Label). Gets c.args.symbols.now c.args.symbols.now (gathered (label_names text) ws) (λ texts. AppendsValues text texts ws [] c.new-arguments.result)) (sym n.none)
+          (record { table = refl; later = λ later grows. c.new-arguments.ensures }),
+    )
 
 pub returns-in_err-values-clause-takes : goal.returns-in_err-values-clause-takes
 returns-in_err-values-clause-takes c = λ text vs rest can end e.

@@ -21,8 +21,7 @@ returns-then-is_empty-clause-takes c = λ t rest word end e.
 
 pub returns-clause-takes : goal.returns-clause-takes
 returns-clause-takes c = λ t rest word end e.
-    let read = c.in_ok-word.ensures.takes t rest (word_run t word) end e in
-    (
+    let read = c.in_ok-word.ensures.takes t rest (word_run t word) end e in (
       read.0,
       record {
         table = c.in_ok-name.ensures.table ∙ ap (with_text c.args.symbols.now) read.1;

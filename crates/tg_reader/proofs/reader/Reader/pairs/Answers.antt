@@ -1,5 +1,4 @@
 use Rattle.std.proofs.Common.{◌≡◌, ◌∙◌, ◌++◌, ◌∷◌, [], rules, refl, Err}
-use Rattle.gr_symbols.proofs.NumberLemmas.{Grows-trans}
 use Rattle.tg_reader.specs.Naming.{pair_names}
 use Rattle.tg_reader.specs.Reading.{CanReadPair, PutsPair, pair_text}
 use Rattle.tg_reader.specs.declared.reader.Run.TheVariants.{Word}

@@ -18,8 +18,7 @@ returns-in_err-expect-clause-takes c = λ t rest name end e.
 
 pub returns-clause-takes : goal.returns-clause-takes
 returns-clause-takes c = λ t rest name end e.
-    let read = c.in_ok-inside.ensures.takes t (34 ∷ rest) (inside_run t name) refl (e ∙ append_assoc t (34 ∷ []) rest) in
-    (
+    let read = c.in_ok-inside.ensures.takes t (34 ∷ rest) (inside_run t name) refl (e ∙ append_assoc t (34 ∷ []) rest) in (
       c.in_ok-expect.ensures.takes rest read.0,
       record {
         table = c.in_ok-name.ensures.table ∙ ap (with_text c.args.symbols.now) read.1;

@@ -1,5 +1,4 @@
 use Rattle.std.proofs.Common.{◌≡◌, ◌∙◌, ◌++◌, ◌∷◌, [], rules, refl, Err}
-use Rattle.gr_symbols.proofs.NumberLemmas.{Grows-trans}
 use Rattle.td_canon.specs.TreeText.{label_text}
 use Rattle.tg_reader.specs.Naming.{label_names}
 use Rattle.tg_reader.specs.Reading.{AppendsValue, CanRead, IsKnownTerm}

@@ -1,9 +1,9 @@
 -- What is right for the words of a run.
-use Rattle.std.specs.Prelude.{◌≡◌, ℕ, ◌+◌, ◌<◌, ◌≤◌, List, [], ◌∷◌, ◌++◌, length, take, Option, Some, None, Result, Ok, Err, IfOk, ◌⊎◌, refl, codes, string_bytes}
+use Rattle.std.specs.Prelude.{◌≡◌, ℕ, ◌+◌, ◌<◌, ◌≤◌, List, [], ◌∷◌, ◌++◌, length, take, drop, ◌-◌, Option, Some, None, Result, Ok, Err, IfOk, ◌⊎◌, refl, codes, string_bytes}
 use Rattle.std.specs.Str.Parse.{digits_value}
 use Rattle.std.proofs.Common.{ap, sym, ◌∙◌, subst, arith, inl, inr, length-take}
 use Rattle.std.proofs.lemmas.Bool.{cases_lt}
-use Rattle.std.proofs.lemmas.List.{take_all}
+use Rattle.std.proofs.lemmas.List.{take_all, length-drop}
 use Rattle.gr_base.proofs.ListLemmas.{same_head, same_tail}
 use Rattle.gr_io.specs.Outside.{IsFetched, appended}
 use Rattle.gr_symbols.specs.Numbers.{first_texts}
@@ -100,6 +100,14 @@ right_for (Some files) words file name fetched models s t asks same got h = reco
 pub writes_whole : (files : Option (List ℕ → Option (List ℕ))) (words : List (List ℕ)) (s wanted : Status) (text written : List ℕ) (before after : Option (List ℕ)) → IsRight files words s text → s ≡ wanted
     → after ≡ appended before written → written ≡ text → WritesWhole files words wanted before after
 writes_whole files words s wanted text written before after right e whole same = (text, subst (λ z. IsRight files words z text) e right, whole ∙ ap (λ z. appended before z) same)
+
+-- where fewer bytes than the text's were written, some are left
+pub rest_left : (n : ℕ) (text bytes : List ℕ) → bytes ≡ text → n < length bytes → drop n text ≡ [] → ⊥
+rest_left n text bytes same few none =
+    let a : length (drop n text) ≡ length text - n = length-drop n text in
+    let b : length (drop n text) ≡ 0 = ap length none in
+    let e : length bytes ≡ length text = ap length same in
+    omega (arith, few)
 
 -- no list is shorter where the shelf tells the file and the budget is enough
 pub never_shorter : NotShortened → (files : Option (List ℕ → Option (List ℕ))) (words : List (List ℕ)) (file bytes : List ℕ) (models : ℕ) (s : Status) (text : List ℕ) → IsRight files words s text → AsksCompile words file models → Tells files file bytes → IsEnough bytes models → s ≡ status.Shortened → ⊥

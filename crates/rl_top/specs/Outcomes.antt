@@ -127,7 +127,7 @@ pub record IsRight (files : Option (List ℕ → Option (List ℕ))) (words : Li
 abbrev pub WritesWhole : Option (List ℕ → Option (List ℕ)) → List (List ℕ) → Status → Option (List ℕ) → Option (List ℕ) → Type 0
 WritesWhole files words s before after = (text : List ℕ) × IsRight files words s text × (after ≡ appended before text)
 
--- a front of a right text was written
+-- a front of a right text was written, and not the whole of it
 abbrev pub WritesFront : Option (List ℕ → Option (List ℕ)) → List (List ℕ) → Option (List ℕ) → Option (List ℕ) → Type 0
 WritesFront files words before after =
-    (s : Status) × (front : List ℕ) × (rest : List ℕ) × IsRight files words s (front ++ rest) × (after ≡ appended before front)
+    (s : Status) × (front : List ℕ) × (rest : List ℕ) × IsRight files words s (front ++ rest) × (rest ≡ [] → ⊥) × (after ≡ appended before front)

@@ -2,7 +2,7 @@ use Rattle.std.proofs.Common.{◌≡◌, ◌∙◌, sym, ap, subst, take, drop, 
 use Rattle.std.proofs.lemmas.List.{take-append-drop}
 use Rattle.gr_io.specs.Outside.{appended}
 use Rattle.rl_top.specs.Outcomes.{IsOutcome, IsRight}
-use Rattle.rl_top.proofs.Ending.{right_for, writes_whole, never_shorter}
+use Rattle.rl_top.proofs.Ending.{right_for, writes_whole, rest_left, never_shorter}
 use Rattle.rl_top.proofs.run_one.Goals as goal
 
 pub returns-in-Ok-write_all_of-clause-done : goal.returns-in-Ok-write_all_of-clause-done
@@ -58,5 +58,6 @@ returns-clause-write_front g c = λ _.
       take n text,
       drop n text,
       subst (λ z. IsRight files c.args.words.now o.status z) (sym (take-append-drop n text)) right,
+      rest_left n text c.as_bytes.result.now c.as_bytes.ensures.value c.in-Err.ensures.part,
       c.in-Err.ensures.err ∙ ap (λ z. appended (g.K.Sink.written c.args.out.now) (take n z)) c.as_bytes.ensures.value,
     )

@@ -1,8 +1,11 @@
 -- What the laws of the crates below say, and what those of this one do.
-use Rattle.std.specs.Prelude.{◌≡◌, ◌≢◌, ℕ, ◌<◌, ◌≤◌, List, Bool, false, Result}
+use Rattle.std.specs.Prelude.{◌≡◌, ◌≢◌, ◌↔◌, ℕ, ◌<◌, ◌≤◌, List, Bool, true, false, Some, Result}
 use Rattle.gr_base.specs.Lists.{NoneTwice}
 use Rattle.gr_tokens.specs.declared.ReadRefusal.{ReadRefusal}
+use Rattle.mg_syntax.specs.declared.item.Class.{Class}
 use Rattle.mg_syntax.specs.declared.item.Item.{Item}
+use Rattle.mg_scope.specs.Classes.{class_of}
+use Rattle.mg_scope.specs.Faults.{IsScoped}
 use Rattle.mg_reader.specs.Answers.{IsRight}
 use Rattle.mg_reader.specs.Tables.{IsTable}
 use Rattle.gr_terms.specs.declared.Sym.{Sym}
@@ -39,6 +42,14 @@ abbrev pub WholeList : Type 0
 WholeList = (text : ℕ → List ℕ) (m : List Item) (c : Sym) (budget steps : ℕ) (texts : List (List ℕ)) (cut : Bool) → IsModelSteps m c steps → steps ≤ budget → 0 < budget → IsRightList text m c budget texts cut
     → (cut ≡ false) × IsCompiledList text m c texts
 
+-- each class of a metagrammar that keeps the rules of scope has a number of steps
+abbrev pub HaveSteps : Type 0
+HaveSteps = (m : List Item) (c : Sym) (k : Class) → IsScoped m → class_of m c ≡ Some k → (steps : ℕ) × IsModelSteps m c steps
+
+-- a right list is cut exactly where the budget is less than the steps
+abbrev pub CutBelow : Type 0
+CutBelow = (text : ℕ → List ℕ) (m : List Item) (c : Sym) (budget steps : ℕ) (texts : List (List ℕ)) (cut : Bool) → IsModelSteps m c steps → IsRightList text m c budget texts cut → (cut ≡ true) ↔ (budget < steps)
+
 -- a class has one compiled list
 abbrev pub OneList : Type 0
 OneList = (text : ℕ → List ℕ) (m : List Item) (c : Sym) (xs ys : List (List ℕ)) → IsCompiledList text m c xs → IsCompiledList text m c ys → xs ≡ ys
@@ -52,6 +63,8 @@ pub record BelowLaws : Type 0 where
   pub one_fault : OneFault
   pub whole_list : WholeList
   pub one_list : OneList
+  pub have_steps : HaveSteps
+  pub cut_below : CutBelow
 
 -- a budget that is enough shortens nothing
 abbrev pub NotShortened : Type 0

@@ -15,11 +15,12 @@
 //!   scope, or else the fault of the first valued class that has one.
 //! - Where there is no refusal, the text has all valued classes in the order of their first
 //!   valuations, each with the canonical texts of the trees of all minimal models of all its
-//!   expansions, each once, in byte order. A list may be shorter only where the steps of its class
-//!   are more than the budget; then it says so, and the status is `Shortened`.
+//!   expansions, each once, in byte order. A list is cut exactly where the steps of its class are more
+//!   than the budget; then it says so, and the status is `Shortened`. A cut list has all texts of the
+//!   expansions that the budget pays for, and no others than texts of expansions that it reaches.
 //! - Names are numbered by their first places in the file, so the bytes and the budget fix what is
-//!   right. [`one_outcome`] says how far: whether the file is refused, and the refusal; and all of
-//!   the text, where the budget reaches the steps of each class. [`some_outcome`] says that for each
+//!   right. [`one_outcome`] says how far: the status; where the file is refused, the refusal; and all
+//!   of the text, where the budget reaches the steps of each class. [`some_outcome`] says that for each
 //!   file and budget there is a right outcome.
 //!
 //! # How
@@ -47,7 +48,10 @@ use crate::compiling::BYTE_LIMIT;
 use crate::outcome::outcome_of;
 use gr_io::{FetchFault, Shelf, Sink, write_all_of};
 use gr_text::Name;
-use mg_compile::laws::{each_class_has_an_answer, one_compiled_list, one_fault, steps_are_enough};
+use mg_compile::laws::{
+    cut_below_the_steps, each_class_has_an_answer, each_class_has_steps, one_compiled_list,
+    one_fault, steps_are_enough,
+};
 use mg_reader::laws::{one_answer, one_table, some_answer};
 use rl_refusals::laws::one_line;
 use rl_words::compile_request;
@@ -125,10 +129,12 @@ pub fn some_outcome()
 }
 
 /// For the bytes of a file and a budget at most one refusal is right, and with it no other outcome.
-/// Where the budget is at least 1 and at least the steps of each valued class, at most one outcome
-/// is right at all, and no list of it is cut.
+/// At most one status is right, since the budget alone says which lists are cut. Where it is at least 1
+/// and at least the steps of each valued class, at most one outcome is right at all, and no list of it
+/// is cut.
 pub fn one_outcome()
     ensures refusal { (bytes text other : List ℕ) (models : ℕ) (s : Ending) → IsOutcome bytes models Status.Refused text → IsOutcome bytes models s other → (s ≡ Status.Refused) × (text ≡ other) }
+    ensures status { (bytes text other : List ℕ) (models : ℕ) (s t : Ending) → IsOutcome bytes models s text → IsOutcome bytes models t other → s ≡ t }
     ensures enough { (bytes text other : List ℕ) (models : ℕ) (s t : Ending) → IsEnough bytes models → IsOutcome bytes models s text → IsOutcome bytes models t other → (s ≡ t) × (text ≡ other) }
     ensures whole { (bytes text : List ℕ) (models : ℕ) (s : Ending) → IsEnough bytes models → IsOutcome bytes models s text → s ≢ Status.Shortened }
 {
@@ -138,4 +144,6 @@ pub fn one_outcome()
     one_fault();
     steps_are_enough();
     one_compiled_list();
+    each_class_has_steps();
+    cut_below_the_steps();
 }

@@ -14,21 +14,24 @@
 //!   the class is refused for (`IsClassFault`).
 //! - `specs/Taking` says what a single answer of an expander adds to what was found so far, and
 //!   `specs/Going` what was found of the first expansions: while the class isn't cut, all of their
-//!   texts, for exactly their steps; once it is cut, some texts, with nothing of the budget left, and
-//!   fewer units than the class has steps.
+//!   texts, for exactly their steps; once it is cut, all texts of those that were paid for and some of
+//!   the next, with nothing of the budget left, and fewer units than the steps of these together.
 //!
 //! # What the crates above can rely on
 //!
 //! - [`compile_class`] answers a right list or a [`CompileRefusal`]. Beside each text stands the tree of
 //!   a minimal model that has it: one with the canonical form of the model. A refusal but want of memory
-//!   is the class's fault, and a class that has a fault is refused. Where the class isn't cut, its list
-//!   is whole. Where it is cut, the budget is less than its steps.
+//!   is the class's fault, and a class that has a fault is refused. A list is cut exactly where the
+//!   budget is less than the steps of its class, and else it is whole.
+//! - A cut list has all texts of the expansions that the budget pays for together with all before them.
+//!   Its other texts are of the one expansion in which the budget ends; which of these it has is open.
 //! - Faults are looked for in as many expansions as the budget has units, also behind the place where
 //!   the list is cut. So whether a class is refused doesn't depend on how many models there are.
 //! - The table of names needs a text for each number of the metagrammar, and nothing more: each name
 //!   that an expansion says stands in the metagrammar, or is the category's.
-//! - [`laws`] has that a class has one compiled list, one number of steps and at most one fault, and
-//!   that with a budget of at least the steps the right list is the whole one.
+//! - [`laws`] has that a class has one compiled list, one number of steps and at most one fault, that
+//!   with a budget of at least the steps the right list is the whole one, and that with a smaller one it
+//!   is cut.
 //!
 //! # How
 //!

@@ -1,5 +1,5 @@
 -- A lexical tree's network agrees with more assertions just where that of its tree and its entry does.
-use Rattle.std.specs.Prelude.{◌≡◌, ℕ, zero, suc, ◌+◌, List, [], ◌∷◌, ◌++◌, map, Some, slice_get, ◌↔◌, refl}
+use Rattle.std.specs.Prelude.{◌≡◌, ℕ, zero, suc, ◌+◌, List, [], ◌∷◌, ◌++◌, ◌⊎◌, map, Some, slice_get, ◌↔◌, refl}
 use Rattle.std.specs.List.{AllZip}
 use Rattle.std.proofs.Common.{inl, inr, ap, ap₂, subst, sym, ◌∙◌, arith}
 use Rattle.std.proofs.lemmas.List.{map-append}
@@ -13,7 +13,7 @@ use Rattle.gr_terms.specs.Constants.{ANCHOR}
 use Rattle.gr_terms.specs.Interpretations.{Interprets}
 use Rattle.gr_terms.specs.Networks as net
 use Rattle.gr_terms.specs.Networks.{Assertion, name, variable, entry, equate, link, Agrees, AreLinked, AreLinkedSlots, HasValue, Follows, equated, same, back, next, linked, same_slot, back_slot, next_slot, put_assertion, put_term}
-use Rattle.gr_terms.proofs.NetworkLemmas.{Agrees-from, AreLinked-part, AreLinkedSlots-part, Follows-among, Follows-part}
+use Rattle.gr_terms.proofs.NetworkLemmas.{Agrees-from, AreLinked-part, AreLinked-put, AreLinkedSlots-part, AreLinkedSlots-put, Follows-among, Follows-part, Follows-put, Interprets-put, put_assertion-put}
 use Rattle.td_tree.specs.Trees.{AreTreeNodes, BagPairs}
 use Rattle.td_tree.specs.TreeNetworks.{Part, own_part, top_part, bottom_part, TreeSlot, at_node, at_interface, slots_at, tree_network}
 use Rattle.td_tree.specs.TreeViews.{Pairs, decorated_of, lists_of}
@@ -22,7 +22,7 @@ use Rattle.td_tree.proofs.TreeNetworkLemmas.{IsPairAt, TreeEntry, count_from, in
 use Rattle.tg_grammar.specs.Marks.{is_marked, marked, node_lists}
 use Rattle.tg_grammar.proofs.SightLemmas.{labels-nodes}
 use Rattle.lx_lexicon.specs.declared.entry.Entry.{Entry}
-use Rattle.lx_anchor.specs.Carrying.{IsKnown, IsOfKnown, carried, slot_in_tree}
+use Rattle.lx_anchor.specs.Carrying.{IsKnown, IsKnownBeside, IsOfKnown, IsOfKnownBeside, beside, carried, carried_beside, slot_beside, slot_in_tree, term_beside}
 use Rattle.lx_anchor.specs.Networks.{Variable, Slot, in_tree, slots_in, anchored_network, anchored_tree}
 use Rattle.lx_anchor.specs.TreesOver.{IsTreeOver, ListsNode, ListsSlot}
 use Rattle.lx_anchor.proofs.AnchoredNetwork.{JointAt, base-linked, entry-is_joint, joint-value, no-equation, slots-joined, stands}
@@ -200,24 +200,42 @@ module _ (t : Tree) (e : Entry) (new : Tree) (nodes : AreTreeNodes t.nodes) (anc
   known-home x (inl met) = subst (λ y. AreLinked N x (put_term home y)) (sym (put-is x met)) (over.exact.home x met)
   known-home x (inr (a, is)) = subst (λ y. AreLinked N y (put_term home (put_term W' y))) (sym is) (same (name a))
 
+  -- what the tree and the entry say is said over the lexical tree
+  entry-there : (s : Slot) (a : ℕ) (x : net.Term Variable) → IsAmong N (entry s a x) → Follows M (entry (slot_in_tree anchor s) a (put_term W' x))
+  entry-there s a x i =
+      let joint = entry-is_joint nodes.forest t e anchor one s a x i in
+      let has = joint-value nodes.forest t e anchor one (slot_in_tree anchor s) a x joint in
+      let lists = joint-lists (slot_in_tree anchor s) a x joint in
+      let pair = lists.pair a (W x) ((lists.lists.pairs a (W x)).1 (x, has, refl)) in
+      let met : IsMet N U x = inl (in_tree (slot_in_tree anchor s), a, lists.among, has) in
+      (W x, (slot_in_tree anchor s, same_slot (slot_in_tree anchor s), pair_entry D' (slot_in_tree anchor s) a (W x) pair), subst (λ y. AreLinked M y (W x)) (sym (put-is x met)) (same (W x)))
+
+  there-in : (b : Assertion Variable Slot) → IsAmong N b → Follows M (put_assertion W' (slot_in_tree anchor) b)
+  there-in (entry s a x) i = entry-there s a x i
+  there-in (equate x y) i = absurd (no-equation nodes.forest t e anchor one x y (stands nodes.forest t e anchor one (equate x y) i))
+  there-in (link s r) i = subst (λ q. AreLinkedSlots M (slot_in_tree anchor s) q) (slots-joined nodes.forest t e anchor one s r (linked s r i)) (same_slot (slot_in_tree anchor s))
+
+  -- and the other way round
+  entry-home : (s : TreeSlot) (a : ℕ) (v : net.Term ℕ) → IsAmong M (entry s a v) → Follows N (entry (in_tree s) a (put_term home v))
+  entry-home s a v i =
+      let read = new-pair s a v (entry_pair D' s a v i) in
+      let from = (read.has.lists.pairs a v).0 read.there in
+      let met : IsMet N U from.0 = inl (in_tree s, a, read.has.among, from.1) in
+      let linked-home : AreLinked N from.0 (put_term home v) = subst (λ y. AreLinked N from.0 (put_term home y)) (sym from.2) (over.exact.home from.0 met) in
+      (from.0, from.1, back _ _ linked-home)
+
+  no-tree_equation : (x y : net.Term ℕ) → TreeEntry D' (equate x y) → ⊥
+  no-tree_equation x y (in_node n lists at h) = let is : equate x y ≡ entry (at_node n h.part) h.pair.0 h.pair.1 = h.is in cc
+  no-tree_equation x y (in_interface p i h) = cc
+
+  home-in : (b : Assertion ℕ TreeSlot) → IsAmong M b → Follows N (put_assertion home in_tree b)
+  home-in (entry s a v) i = entry-home s a v i
+  home-in (equate x y) i = absurd (no-tree_equation x y (tree_entry D' (equate x y) i))
+  home-in (link s r) i = subst (λ q. AreLinkedSlots N (in_tree s) (in_tree q)) (same_slots D' s r (linked s r i)) (same_slot (in_tree s))
+
   module _ (L : List (Assertion Variable Slot)) (known : Each (IsOfKnown N U) L) where
     abbrev L' : List (Assertion ℕ TreeSlot)
     L' = carried anchor W L
-
-    -- what the tree and the entry say is said over the lexical tree
-    entry-there : (s : Slot) (a : ℕ) (x : net.Term Variable) → IsAmong N (entry s a x) → Follows M (entry (slot_in_tree anchor s) a (put_term W' x))
-    entry-there s a x i =
-        let joint = entry-is_joint nodes.forest t e anchor one s a x i in
-        let has = joint-value nodes.forest t e anchor one (slot_in_tree anchor s) a x joint in
-        let lists = joint-lists (slot_in_tree anchor s) a x joint in
-        let pair = lists.pair a (W x) ((lists.lists.pairs a (W x)).1 (x, has, refl)) in
-        let met : IsMet N U x = inl (in_tree (slot_in_tree anchor s), a, lists.among, has) in
-        (W x, (slot_in_tree anchor s, same_slot (slot_in_tree anchor s), pair_entry D' (slot_in_tree anchor s) a (W x) pair), subst (λ y. AreLinked M y (W x)) (sym (put-is x met)) (same (W x)))
-
-    there-in : (b : Assertion Variable Slot) → IsAmong N b → Follows M (put_assertion W' (slot_in_tree anchor) b)
-    there-in (entry s a x) i = entry-there s a x i
-    there-in (equate x y) i = absurd (no-equation nodes.forest t e anchor one x y (stands nodes.forest t e anchor one (equate x y) i))
-    there-in (link s r) i = subst (λ q. AreLinkedSlots M (slot_in_tree anchor s) q) (slots-joined nodes.forest t e anchor one s r (linked s r i)) (same_slot (slot_in_tree anchor s))
 
     there : Interprets W' (slot_in_tree anchor) (N ++ L) (M ++ L')
     there b i = elim (IsAmong-append N L b i) [
@@ -235,23 +253,6 @@ module _ (t : Tree) (e : Entry) (new : Tree) (nodes : AreTreeNodes t.nodes) (anc
     back-slot : (s : Slot) → AreLinkedSlots (N ++ L) s (in_tree (slot_in_tree anchor s))
     back-slot s = slots-in-all s (in_tree (slot_in_tree anchor s)) (base-linked nodes.forest t e anchor one s)
 
-    entry-home : (s : TreeSlot) (a : ℕ) (v : net.Term ℕ) → IsAmong M (entry s a v) → Follows (N ++ L) (entry (in_tree s) a (put_term home v))
-    entry-home s a v i =
-        let read = new-pair s a v (entry_pair D' s a v i) in
-        let from = (read.has.lists.pairs a v).0 read.there in
-        let met : IsMet N U from.0 = inl (in_tree s, a, read.has.among, from.1) in
-        let linked-home : AreLinked N from.0 (put_term home v) = subst (λ y. AreLinked N from.0 (put_term home y)) (sym from.2) (over.exact.home from.0 met) in
-        (from.0, (from.1.0, slots-in-all (in_tree s) from.1.0 from.1.1, IsAmong-append_left N L (entry from.1.0 a from.0) from.1.2), in-all _ _ (back _ _ linked-home))
-
-    no-tree_equation : (x y : net.Term ℕ) → TreeEntry D' (equate x y) → ⊥
-    no-tree_equation x y (in_node n lists at h) = let is : equate x y ≡ entry (at_node n h.part) h.pair.0 h.pair.1 = h.is in cc
-    no-tree_equation x y (in_interface p i h) = cc
-
-    home-in : (b : Assertion ℕ TreeSlot) → IsAmong M b → Follows (N ++ L) (put_assertion home in_tree b)
-    home-in (entry s a v) i = entry-home s a v i
-    home-in (equate x y) i = absurd (no-tree_equation x y (tree_entry D' (equate x y) i))
-    home-in (link s r) i = subst (λ q. AreLinkedSlots (N ++ L) (in_tree s) (in_tree q)) (same_slots D' s r (linked s r i)) (same_slot (in_tree s))
-
     more-home : (b : Assertion Variable Slot) → IsAmong L b → IsOfKnown N U b → Follows (N ++ L) (put_assertion home in_tree (put_assertion W' (slot_in_tree anchor) b))
     more-home (entry s a x) i h = (x, (s, back_slot _ _ (back-slot s), IsAmong-append_right N L (entry s a x) i), in-all _ _ (back _ _ (known-home x h)))
     more-home (equate x y) i h =
@@ -261,7 +262,7 @@ module _ (t : Tree) (e : Entry) (new : Tree) (nodes : AreTreeNodes t.nodes) (anc
 
     homeward : Interprets home in_tree (M ++ L') (N ++ L)
     homeward b i = elim (IsAmong-append M L' b i) [
-      | inl j ↦ home-in b j
+      | inl j ↦ Follows-part N (N ++ L) (λ c k. IsAmong-append_left N L c k) (put_assertion home in_tree b) (home-in b j)
       | inr j ↦
           let r = IsAmong-map_from (put_assertion W' (slot_in_tree anchor)) L b j in
           subst (λ c. Follows (N ++ L) (put_assertion home in_tree c)) (sym r.2) (more-home r.0 r.1 (Each-at (IsOfKnown N U) L r.0 known r.1))
@@ -269,3 +270,96 @@ module _ (t : Tree) (e : Entry) (new : Tree) (nodes : AreTreeNodes t.nodes) (anc
 
     pub agreement-carried : Agrees (N ++ L) ↔ Agrees (M ++ L')
     agreement-carried = (Agrees-from home in_tree (M ++ L') (N ++ L) homeward, Agrees-from W' (slot_in_tree anchor) (N ++ L) (M ++ L') there)
+
+  -- ---- the same beside strangers
+
+  module _ (W R : Type 0) (L : List (Assertion (Variable ⊎ W) (Slot ⊎ R))) (known : Each (IsOfKnownBeside N U) L) where
+    abbrev N-beside : List (Assertion (Variable ⊎ W) (Slot ⊎ R))
+    N-beside = beside W R N
+
+    abbrev M-beside : List (Assertion (ℕ ⊎ W) (TreeSlot ⊎ R))
+    M-beside = beside W R M
+
+    abbrev L-beside : List (Assertion (ℕ ⊎ W) (TreeSlot ⊎ R))
+    L-beside = carried_beside anchor over.written L
+
+    abbrev forth : Variable ⊎ W → net.Term (ℕ ⊎ W)
+    forth = term_beside W'
+
+    abbrev forth_slot : Slot ⊎ R → TreeSlot ⊎ R
+    forth_slot = slot_beside anchor
+
+    abbrev return : ℕ ⊎ W → net.Term (Variable ⊎ W)
+    return = term_beside home
+
+    abbrev return_slot : TreeSlot ⊎ R → Slot ⊎ R
+    return_slot (inl s) = inl (in_tree s)
+    return_slot (inr r) = inr r
+
+    -- what follows from a network follows from it beside strangers
+    lifted : (b : Assertion Variable Slot) → Follows N b → Follows N-beside (put_assertion (λ v. variable (inl v)) inl b)
+    lifted b h = Follows-put (λ v. variable (inl v)) inl N N-beside (Interprets-put (λ v. variable (inl v)) inl N) b h
+
+    lifted-new : (b : Assertion ℕ TreeSlot) → Follows M b → Follows M-beside (put_assertion (λ v. variable (inl v)) inl b)
+    lifted-new b h = Follows-put (λ v. variable (inl v)) inl M M-beside (Interprets-put (λ v. variable (inl v)) inl M) b h
+
+    there-beside : Interprets forth forth_slot (N-beside ++ L) (M-beside ++ L-beside)
+    there-beside b i = elim (IsAmong-append N-beside L b i) [
+      | inl j ↦
+          let r = IsAmong-map_from (put_assertion (λ v. variable (inl v)) inl) N b j in
+          let same-way : put_assertion (λ v. variable (inl v)) inl (put_assertion W' (slot_in_tree anchor) r.0) ≡ put_assertion forth forth_slot b =
+          put_assertion-put W' (slot_in_tree anchor) (λ v. variable (inl v)) inl r.0 ∙ sym (put_assertion-put (λ v. variable (inl v)) inl forth forth_slot r.0) ∙ ap (put_assertion forth forth_slot) (sym r.2)
+          in
+          Follows-part M-beside (M-beside ++ L-beside) (λ c k. IsAmong-append_left M-beside L-beside c k) (put_assertion forth forth_slot b)
+          (subst (λ c. Follows M-beside c) same-way (lifted-new (put_assertion W' (slot_in_tree anchor) r.0) (there-in r.0 r.1)))
+      | inr j ↦ Follows-among (M-beside ++ L-beside) (put_assertion forth forth_slot b) (IsAmong-append_right M-beside L-beside (put_assertion forth forth_slot b) (IsAmong-map (put_assertion forth forth_slot) L b j))
+    ]
+
+    -- and the other way round
+    beside-home : (x : net.Term ℕ) → put_term return (put_term (λ v. variable (inl v)) x) ≡ put_term (λ v. variable (inl v)) (put_term home x)
+    beside-home (name a) = refl
+    beside-home (variable v) = refl
+
+    known-return : (x : net.Term (Variable ⊎ W)) → IsKnownBeside N U x → AreLinked N-beside x (put_term return (put_term forth x))
+    known-return (name a) h = same (name a)
+    known-return (variable (inl v)) h =
+        subst (λ y. AreLinked N-beside (variable (inl v)) y) (sym (beside-home (W' v)))
+        (AreLinked-put (λ w. variable (inl w)) inl N N-beside (Interprets-put (λ w. variable (inl w)) inl N) (variable v) (put_term home (W' v)) (known-home (variable v) (inl h)))
+    known-return (variable (inr w)) h = same (variable (inr w))
+
+    slot-return : (s : Slot ⊎ R) → AreLinkedSlots N-beside s (return_slot (forth_slot s))
+    slot-return (inl s) =
+        AreLinkedSlots-put (λ w. variable (inl w)) inl N N-beside (Interprets-put (λ w. variable (inl w)) inl N) s (in_tree (slot_in_tree anchor s)) (base-linked nodes.forest t e anchor one s)
+    slot-return (inr r) = same_slot (inr r)
+
+    all-beside : (x y : net.Term (Variable ⊎ W)) → AreLinked N-beside x y → AreLinked (N-beside ++ L) x y
+    all-beside = AreLinked-part N-beside (N-beside ++ L) (λ c k. IsAmong-append_left N-beside L c k)
+
+    slots-all_beside : (s r : Slot ⊎ R) → AreLinkedSlots N-beside s r → AreLinkedSlots (N-beside ++ L) s r
+    slots-all_beside = AreLinkedSlots-part N-beside (N-beside ++ L) (λ c k. IsAmong-append_left N-beside L c k)
+
+    more-return : (b : Assertion (Variable ⊎ W) (Slot ⊎ R)) → IsAmong L b → IsOfKnownBeside N U b → Follows (N-beside ++ L) (put_assertion return return_slot (put_assertion forth forth_slot b))
+    more-return (entry s a x) i h =
+        (x, (s, back_slot _ _ (slots-all_beside s (return_slot (forth_slot s)) (slot-return s)), IsAmong-append_right N-beside L (entry s a x) i), all-beside _ _ (back _ _ (known-return x h)))
+    more-return (equate x y) i h =
+        next _ _ _ (all-beside _ _ (back _ _ (known-return x h.0))) (next _ _ _ (equated x y (IsAmong-append_right N-beside L (equate x y) i)) (all-beside _ _ (known-return y h.1)))
+    more-return (link s r) i h =
+        next_slot _ _ _ (back_slot _ _ (slots-all_beside s (return_slot (forth_slot s)) (slot-return s)))
+        (next_slot _ _ _ (linked s r (IsAmong-append_right N-beside L (link s r) i)) (slots-all_beside r (return_slot (forth_slot r)) (slot-return r)))
+
+    homeward-beside : Interprets return return_slot (M-beside ++ L-beside) (N-beside ++ L)
+    homeward-beside b i = elim (IsAmong-append M-beside L-beside b i) [
+      | inl j ↦
+          let r = IsAmong-map_from (put_assertion (λ v. variable (inl v)) inl) M b j in
+          let same-way : put_assertion (λ v. variable (inl v)) inl (put_assertion home in_tree r.0) ≡ put_assertion return return_slot b =
+          put_assertion-put home in_tree (λ v. variable (inl v)) inl r.0 ∙ sym (put_assertion-put (λ v. variable (inl v)) inl return return_slot r.0) ∙ ap (put_assertion return return_slot) (sym r.2)
+          in
+          Follows-part N-beside (N-beside ++ L) (λ c k. IsAmong-append_left N-beside L c k) (put_assertion return return_slot b)
+          (subst (λ c. Follows N-beside c) same-way (lifted (put_assertion home in_tree r.0) (home-in r.0 r.1)))
+      | inr j ↦
+          let r = IsAmong-map_from (put_assertion forth forth_slot) L b j in
+          subst (λ c. Follows (N-beside ++ L) (put_assertion return return_slot c)) (sym r.2) (more-return r.0 r.1 (Each-at (IsOfKnownBeside N U) L r.0 known r.1))
+    ]
+
+    pub agreement-carried_beside : Agrees (N-beside ++ L) ↔ Agrees (M-beside ++ L-beside)
+    agreement-carried_beside = (Agrees-from return return_slot (M-beside ++ L-beside) (N-beside ++ L) homeward-beside, Agrees-from forth forth_slot (N-beside ++ L) (M-beside ++ L-beside) there-beside)

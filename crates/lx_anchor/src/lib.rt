@@ -25,7 +25,8 @@
 //!   could make it one. A metagrammar and grammar text write marks as words alone, so their trees have
 //!   no such mark. [`has_named_marks`] decides it, and then no lexical tree has such a mark.
 //! - [`laws`]: further assertions agree with the network of a lexical tree's own lists exactly where
-//!   they agree with that of its tree and its entry. So the layers above need the lexical tree alone.
+//!   they agree with that of its tree and its entry, also where they speak of strangers, as of other
+//!   trees of a derivation. So the layers above need the lexical tree alone.
 //!
 //! # How it is done
 //!

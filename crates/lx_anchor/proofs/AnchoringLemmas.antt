@@ -32,11 +32,11 @@ use Rattle.tg_grammar.specs.NamedMarks.{HasNamedMarks}
 use Rattle.tg_model.specs.LexicalTrees.{IsLexical}
 use Rattle.tg_model.specs.declared.lexical.LexicalTree.{LexicalTree}
 use Rattle.lx_anchor.specs.Anchoring.{AreLemmas, HasLiteral, IsAnchorRefusal, IsGiven, IsLexicalTree, Makes, co_leaves}
-use Rattle.lx_anchor.specs.Counts.{IsEntryBelow, IsLiteralBelow}
+use Rattle.lx_anchor.specs.Counts.{HasFewFeatures, IsEntryBelow, IsLiteralBelow}
 use Rattle.lx_anchor.specs.Networks.{anchored_network, anchored_tree, entry_term, tree_term}
 use Rattle.lx_anchor.specs.TreesOver.{IsTreeOver}
 use Rattle.lx_anchor.specs.Rows.{AreDone, IsAnchoredTree, IsBarePair, IsFamily, IsFound, IsRefused}
-use Rattle.lx_anchor.specs.Sharing.{AreEquations, CanServe, HasRoom, counted_pairs}
+use Rattle.lx_anchor.specs.Sharing.{AreEquations, CanServeAll, HasRoom, counted_pairs}
 use Rattle.lx_anchor.specs.declared.refusal.AnchorRefusal.{AnchorRefusal}
 use Rattle.lx_anchor.specs.Writings.{IsReady, counted_literals}
 use Rattle.lx_anchor.proofs.CountLemmas.{bag-grows, tree-grows}
@@ -89,19 +89,21 @@ is-ready t e first anchor old m E room is fits equations =
 
 -- ---- the store
 
-pub can-serve : (e : Entry) (first count vars : ℕ) (room : Room) (empty made : Contents) → IsEntryBelow count e → vars ≡ first + count → room.vars ≡ vars → room.assertions ≡ length e.iface + length e.anchor
-    → empty ≡ record { vars = 0; slots = 0; accepted = []; spare = room } → made ≡ record empty { vars = empty.vars + vars; spare = record empty.spare { vars = empty.spare.vars - vars } } → CanServe e first made
-can-serve e first count vars room empty made below is fits equations made-empty made-vars =
+pub serves-all : (es : List Entry) (first count : ℕ) (c : Contents) → Each (IsEntryBelow count) es → Each (HasFewFeatures c.spare.assertions) es → first + count ≤ c.vars → c.accepted ≡ [] → CanServeAll es first c
+serves-all [] first count c below few made none = tt
+serves-all (e ∷ es) first count c below few made none = (
+  record { count = count; made = made; entry = below.0; equations = few.0; none = none },
+  serves-all es first count c below.1 few.1 made none,
+)
+
+pub store-serves : (es : List Entry) (first count vars : ℕ) (room : Room) (empty made : Contents) → Each (IsEntryBelow count) es → Each (HasFewFeatures room.assertions) es → vars ≡ first + count
+    → empty ≡ record { vars = 0; slots = 0; accepted = []; spare = room } → made ≡ record empty { vars = empty.vars + vars; spare = record empty.spare { vars = empty.spare.vars - vars } } → CanServeAll es first made
+store-serves es first count vars room empty made below few is made-empty made-vars =
     let all : made ≡ record { vars = 0 + vars; slots = 0; accepted = []; spare = record room { vars = room.vars - vars } } =
     made-vars ∙ ap (λ (c : Contents). record c { vars = c.vars + vars; spare = record c.spare { vars = c.spare.vars - vars } }) made-empty
     in
-    record {
-      count = count;
-      made = let v : made.vars ≡ 0 + vars = ap (λ (c : Contents). c.vars) all in omega arith;
-      entry = below;
-      equations = let v : made.spare.assertions ≡ room.assertions = ap (λ (c : Contents). c.spare.assertions) all in omega arith;
-      none = ap (λ (c : Contents). c.accepted) all;
-    }
+    let v : made.vars ≡ 0 + vars = ap (λ (c : Contents). c.vars) all in
+    serves-all es first count made below (subst (λ k. Each (HasFewFeatures k) es) (sym (ap (λ (c : Contents). c.spare.assertions) all)) few) (omega arith) (ap (λ (c : Contents). c.accepted) all)
 
 -- ---- a lexical tree
 

@@ -7,7 +7,7 @@ use Rattle.gr_terms.specs.declared.Term.{Term}
 use Rattle.gr_terms.specs.declared.Term.TheVariants.{Const, Var}
 use Rattle.gr_store.specs.Contents.{IsMade}
 use Rattle.tg_grammar.proofs.GrammarLemmas.{Each-take_more}
-use Rattle.lx_anchor.specs.Counts.{IsBagBelow, IsClassBelow, IsLiteralBelow, IsNodeBelow, IsTreeBelow}
+use Rattle.lx_anchor.specs.Counts.{HasFewFeatures, IsBagBelow, IsClassBelow, IsEntryBelow, IsLiteralBelow, IsNodeBelow, IsTreeBelow}
 
 -- P holds also at greater counts
 abbrev pub Grows : {A : Type 0} → (ℕ → A → Type 0) → Type 0
@@ -43,3 +43,9 @@ tree-grows m n t le h = record { nodes = each-grows IsNodeBelow node-grows m n t
 
 pub class-grows : Grows IsClassBelow
 class-grows m n c le h = each-grows IsTreeBelow tree-grows m n _ le h
+
+pub entry-grows : Grows IsEntryBelow
+entry-grows m n e le h = record { iface = bag-grows m n e.iface le h.iface; anchor = bag-grows m n e.anchor le h.anchor; sem = each-grows IsLiteralBelow literal-grows m n e.sem le h.sem }
+
+pub features-grow : Grows HasFewFeatures
+features-grow m n e le h = omega (arith, h, le)

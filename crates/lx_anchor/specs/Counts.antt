@@ -1,5 +1,5 @@
 -- Trees and entries whose variables have numbers below a count.
-use Rattle.std.specs.Prelude.{ℕ, List}
+use Rattle.std.specs.Prelude.{ℕ, ◌+◌, ◌≤◌, List, length}
 use Rattle.gr_base.specs.Lists.{Each}
 use Rattle.gr_terms.specs.declared.Literal.{Literal}
 use Rattle.gr_store.specs.Contents.{IsMade}
@@ -38,3 +38,7 @@ pub record IsEntryBelow (count : ℕ) (e : Entry) : Type 0 where
   pub iface : IsBagBelow count e.iface
   pub anchor : IsBagBelow count e.anchor
   pub sem : Each (IsLiteralBelow count) e.sem
+
+-- the interface and the features of the anchor have at most so many pairs
+abbrev pub HasFewFeatures : ℕ → Entry → Type 0
+HasFewFeatures count e = length e.iface + length e.anchor ≤ count

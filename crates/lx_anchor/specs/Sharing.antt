@@ -71,6 +71,10 @@ pub record CanServe (e : Entry) (first : ℕ) (c : Contents) : Type 0 where
   pub equations : length e.iface + length e.anchor ≤ c.spare.assertions
   pub none : c.accepted ≡ []
 
+-- the store serves each of the entries
+abbrev pub CanServeAll : List Entry → ℕ → Contents → Type 0
+CanServeAll es first c = Each (λ e. CanServe e first c) es
+
 -- and the variables of the tree are among the first ones
 pub record HasRoom (t : Tree) (e : Entry) (first : ℕ) (c : Contents) : Type 0 where
   pub serves : CanServe e first c

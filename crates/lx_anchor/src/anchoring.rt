@@ -10,10 +10,10 @@ ghost use Rattle.tg_model.specs.LexicalTrees.{AreLexical};
 ghost use Rattle.lx_anchor.specs.Anchoring.{AreLexicalTrees, HasLiteral, IsAnchorRefusal};
 ghost use Rattle.lx_anchor.specs.Counts.{AreClassesBelow, IsClassBelow};
 ghost use Rattle.lx_anchor.specs.Rows.{AreDone, IsAnchored, IsFamily, IsFound, IsRefused};
-ghost use Rattle.lx_anchor.specs.Sharing.{CanServe, HasRoom};
+ghost use Rattle.lx_anchor.specs.Sharing.{CanServe, CanServeAll, HasRoom};
 
 use crate::coanchors::lemmas_of;
-use crate::counts::{count_entry, count_grammar};
+use crate::counts::{count_grammar, count_lexicon, most_features};
 use crate::refusal::AnchorRefusal;
 use crate::sharing::share_all;
 use crate::writing::joint_tree;
@@ -39,26 +39,20 @@ fn make_variables(store: &mut Store, count: u32)
     }
 }
 
-/// An empty store with the variables of each tree and of the entry, and with room for the equations
-/// of the entry and any tree. The entry's variables are counted from `first`.
-fn store_for(alloc: Global, first: u32, entry: &Entry) -> Result<Store, Memory>
-    ensures { IfOk result (CanServe entry.now first) }
+/// An empty store with the variables of each tree and of each entry, and with room for the equations
+/// of any of them. The variables of an entry are counted from `first`.
+fn store_for(alloc: Global, first: u32, lexicon: &Lexicon) -> Result<Store, Memory>
+    ensures { IfOk result (CanServeAll lexicon.now first) }
 {
-    let count = count_entry(entry)?;
+    let count = count_lexicon(lexicon)?;
     let Some(vars) = first.checked_add(count) else {
-        return Err(Memory);
-    };
-    let Some(equations) = entry.iface.len().checked_add(entry.anchor.len()) else {
-        return Err(Memory);
-    };
-    let Ok(assertions) = u32::try_from(equations) else {
         return Err(Memory);
     };
     let room = Room {
         vars,
         slots: 0,
         entries: 0,
-        assertions,
+        assertions: most_features(lexicon)?,
     };
     let mut store = Store::with_room(alloc, room)?;
     make_variables(&mut store, vars);
@@ -154,9 +148,10 @@ fn lexical_tree(
     }))
 }
 
-/// Appends the lexical trees of entry `number` and the trees of its family.
+/// Appends the lexical trees of entry `number` and the trees of its family. The store is as it was.
 fn anchor_family(
     alloc: Global,
+    store: &mut Store,
     first: u32,
     grammar: &Grammar,
     lexicon: &Lexicon,
@@ -168,17 +163,18 @@ fn anchor_family(
     requires family { IsFamily grammar.now lexicon.now number class.now }
     requires well_formed { IsWellFormedClass class.now }
     requires below { IsClassBelow first class.now }
+    requires serves { CanServeAll lexicon.now first store.old }
     requires done { AreDone grammar.now lexicon.now number 0 trees.old }
     ensures ok { OnOk result (AreDone grammar.now lexicon.now (number + 1) 0 trees.new) }
+    ensures same { OnOk result (store.new ≡ store.old) }
     ensures err { IfErr result (IsAnchorRefusal grammar.now lexicon.now) }
 {
     let entry = lexicon.get(number);
     let Ok(entry_number) = u32::try_from(number) else {
         return Err(AnchorRefusal::Memory);
     };
-    let mut store = store_for(alloc, first, entry)?;
     'trees: for at in 0..class.trees.len() {
-        let found = lexical_tree(alloc, &mut store, first, class, at, entry_number, entry)?;
+        let found = lexical_tree(alloc, store, first, class, at, entry_number, entry)?;
         if let Some(lexical) = found {
             trees.push(lexical)?;
         }
@@ -186,9 +182,10 @@ fn anchor_family(
     Ok(())
 }
 
-/// Appends the lexical trees of entry `number`.
+/// Appends the lexical trees of entry `number`. The store is as it was.
 fn anchor_entry(
     alloc: Global,
+    store: &mut Store,
     first: u32,
     grammar: &Grammar,
     lexicon: &Lexicon,
@@ -197,12 +194,14 @@ fn anchor_entry(
 ) -> Result<(), AnchorRefusal>
     requires number { number < length lexicon.now }
     requires below { AreClassesBelow first grammar.now }
+    requires serves { CanServeAll lexicon.now first store.old }
     requires done { AreDone grammar.now lexicon.now number 0 trees.old }
     ensures ok { OnOk result (AreDone grammar.now lexicon.now (number + 1) 0 trees.new) }
+    ensures same { OnOk result (store.new ≡ store.old) }
     ensures err { IfErr result (IsAnchorRefusal grammar.now lexicon.now) }
 {
     match grammar.class(lexicon.get(number).family) {
-        Some(class) => anchor_family(alloc, first, grammar, lexicon, number, class, trees),
+        Some(class) => anchor_family(alloc, store, first, grammar, lexicon, number, class, trees),
         None => Ok(()),
     }
 }
@@ -222,9 +221,12 @@ pub fn anchor_all(
     ensures refused { IfErr result (IsAnchorRefusal grammar.now lexicon.now) }
 {
     let first = count_grammar(grammar)?;
+    let mut store = store_for(alloc, first, lexicon)?;
     let mut trees = Items::new(alloc);
     'entries: for number in 0..lexicon.len() {
-        anchor_entry(alloc, first, grammar, lexicon, number, &mut trees)?;
+        anchor_entry(
+            alloc, &mut store, first, grammar, lexicon, number, &mut trees,
+        )?;
     }
     Ok(trees)
 }

@@ -3,11 +3,11 @@
 ghost use Rattle.std.specs.Prelude.{◌≤◌, IfOk};
 ghost use Rattle.gr_base.specs.Lists.{Each};
 ghost use Rattle.gr_store.specs.Contents.{IsMade};
-ghost use Rattle.lx_anchor.specs.Counts.{AreClassesBelow, IsBagBelow, IsClassBelow, IsEntryBelow, IsLiteralBelow, IsNodeBelow, IsTreeBelow};
+ghost use Rattle.lx_anchor.specs.Counts.{AreClassesBelow, HasFewFeatures, IsBagBelow, IsClassBelow, IsEntryBelow, IsLiteralBelow, IsNodeBelow, IsTreeBelow};
 
 use gr_base::Memory;
 use gr_terms::{Bag, Literal, Literals, Term, Terms};
-use lx_lexicon::Entry;
+use lx_lexicon::{Entry, Lexicon};
 use td_canon::ClassTrees;
 use td_tree::{Tree, TreeNode, TreeNodes};
 use tg_grammar::Grammar;
@@ -118,11 +118,46 @@ pub fn count_grammar(grammar: &Grammar) -> Result<u32, Memory>
     Ok(count)
 }
 
-/// Enough for the entry.
-pub fn count_entry(entry: &Entry) -> Result<u32, Memory>
-    ensures { IfOk result (λ count. IsEntryBelow count entry.now) }
+/// At least `count`, and enough for the entry.
+fn count_entry(count: u32, entry: &Entry) -> Result<u32, Memory>
+    ensures { IfOk result (λ more. (count ≤ more) × IsEntryBelow more entry.now) }
 {
-    let interface = count_bag(0, &entry.iface)?;
+    let interface = count_bag(count, &entry.iface)?;
     let anchor = count_bag(interface, &entry.anchor)?;
     count_literals(anchor, &entry.sem)
+}
+
+/// Enough for each of the entries.
+pub fn count_lexicon(lexicon: &Lexicon) -> Result<u32, Memory>
+    ensures { IfOk result (λ count. Each (IsEntryBelow count) lexicon.now) }
+{
+    let mut count = 0;
+    'entries: for number in 0..lexicon.len() {
+        count = count_entry(count, lexicon.get(number))?;
+    }
+    Ok(count)
+}
+
+/// At least `count`, and as many as the entry has features of its interface and of its anchor.
+fn count_features(count: u32, entry: &Entry) -> Result<u32, Memory>
+    ensures { IfOk result (λ more. (count ≤ more) × HasFewFeatures more entry.now) }
+{
+    let Some(features) = entry.iface.len().checked_add(entry.anchor.len()) else {
+        return Err(Memory);
+    };
+    match u32::try_from(features) {
+        Ok(enough) => Ok(count.max(enough)),
+        Err(_) => Err(Memory),
+    }
+}
+
+/// As many as each of the entries has features of its interface and of its anchor, or more.
+pub fn most_features(lexicon: &Lexicon) -> Result<u32, Memory>
+    ensures { IfOk result (λ count. Each (HasFewFeatures count) lexicon.now) }
+{
+    let mut count = 0;
+    'entries: for number in 0..lexicon.len() {
+        count = count_features(count, lexicon.get(number))?;
+    }
+    Ok(count)
 }

@@ -34,7 +34,7 @@
 //! needs no more than an equation for each attribute that a bag of the tree and one of the entry both
 //! have (`sharing`). The tree is then written with what stands for each value (`writing`), and the
 //! equations are undone. An entry's variables are numbered behind all those of the grammar's trees
-//! (`counts`), so one store serves a whole family.
+//! (`counts`), so one store, which is made once, serves all entries.
 #![tactic(auto)]
 
 mod anchoring;

@@ -1,13 +1,19 @@
-use Rattle.std.proofs.Common.{subst, sym, arith}
+use Rattle.std.proofs.Common.{◌∙◌, subst, sym, arith}
+use Rattle.gr_base.proofs.ListLemmas.{Each-at, IsAmong-slice_get}
 use Rattle.lx_anchor.specs.Rows.{IsFound}
 use Rattle.lx_anchor.specs.Sharing.{CanServe}
 use Rattle.lx_anchor.proofs.AnchoringLemmas.{family-all, family-push, family-skip}
 use Rattle.lx_anchor.proofs.anchoring.anchor_family.Goals as goal
 use Rattle.lx_anchor.proofs.anchoring.anchor_family.Goals.{in-Some+in_ok-push, in_default-found}
 
+pub lexical_tree-requires-clause-serves : goal.lexical_tree-requires-clause-serves
+lexical_tree-requires-clause-serves c =
+    subst (λ s. CanServe c.get-entry.result.now c.args.first s) (sym c.trees.invariant.0)
+    (Each-at (λ e. CanServe e c.args.first c.args.store.now) c.args.lexicon.now c.get-entry.result.now c.requires.serves (IsAmong-slice_get c.args.lexicon.now c.args.number c.get-entry.result.now c.get-entry.ensures))
+
 pub trees-preserved : goal.trees-preserved
 trees-preserved c = (
-  subst (λ s. CanServe c.get-entry.result.now c.args.first s) (sym c.in_ok-found.ensures.same) c.trees.invariant.0,
+  c.in_ok-found.ensures.same ∙ c.trees.invariant.0,
   elim c.match-found.branch [
     | in-Some+in_ok-push w ↦
         rw w.trees-is

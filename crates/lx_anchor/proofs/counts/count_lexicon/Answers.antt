@@ -1,0 +1,7 @@
+use Rattle.std.proofs.Common.{arith}
+use Rattle.lx_anchor.specs.Counts.{IsEntryBelow}
+use Rattle.lx_anchor.proofs.CountLemmas.{entry-grows, one-more}
+use Rattle.lx_anchor.proofs.counts.count_lexicon.Goals as goal
+
+pub entries-preserved : goal.entries-preserved
+entries-preserved c = (one-more IsEntryBelow entry-grows 0 c.entries.count c.in_ok-count.count c.args.lexicon.now c.entries.number c.get.result.now c.get.ensures (omega arith, c.entries.invariant) c.in_ok-count.ensures).1

@@ -15,5 +15,5 @@ returns-in-None c =
     let root : TreeNode = record { parent = None; own = c.add-2.new.self; top = c.new.result; bot = c.new-2.result } in
     let l : LexicalTree =
     record { entry = 0; class = record { 0 = 7 }; number = 1; lemma = record { 0 = 7 }; coanchors = c.new-in-None.result; tree = record { nodes = c.push.new.self; iface = c.new-3.result; sem = c.args.sem } } in
-    lexical_one l root (c.in_ok-push.ensures.ok ∙ ap (λ xs. xs ++ root ∷ []) c.new-nodes.ensures) c.new-in-None.ensures (sym c.has_mark.ensures ∙ c.if-has_mark.false) (sym c.has_mark-2.ensures ∙ c.if-not-has_mark.false)
+    lexical_one l root (c.in_ok-push.ensures.ok ∙ ap (λ xs. xs ++ root ∷ []) c.new-nodes.ensures) c.new-in-None.ensures (sym c.has_mark.ensures ∙ c.if-has_mark.false) (sym c.has_mark-else-has_mark.ensures ∙ c.if-not-has_mark.false)
     (λ e. c.if-len-eq0.false (c.len.ensures ∙ ap (λ (xs : List Literal). length xs) e)) c.in-None.ensures

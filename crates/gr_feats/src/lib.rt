@@ -53,6 +53,3 @@ pub use gr_base::Memory;
 pub use load::load_bag;
 pub use names::Names;
 pub use read::{read_bag, read_literals};
-
-#[cfg(test)]
-mod tests;

@@ -42,5 +42,3 @@
 pub mod balanced;
 pub mod brackets;
 pub mod laws;
-#[cfg(test)]
-mod tests;

@@ -38,5 +38,3 @@ pub mod complaints;
 pub mod laws;
 pub mod places;
 pub mod reader;
-#[cfg(test)]
-mod tests;

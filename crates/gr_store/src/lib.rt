@@ -24,6 +24,3 @@ mod store;
 pub use gr_base::Memory;
 pub use room::{Mark, Room};
 pub use store::Store;
-
-#[cfg(test)]
-mod tests;

@@ -8,8 +8,6 @@
 mod cut;
 mod fronts;
 pub mod laws;
-#[cfg(test)]
-mod tests;
 
 ghost use Rattle.std.specs.Prelude.{◌≡◌, ◌≤◌, ◌⊎◌, length, IfOk, IfErr};
 ghost use Rattle.gr_tokens.specs.Answers.{AreTokens, IsRefused};

@@ -43,8 +43,6 @@ pub mod laws;
 mod notes;
 mod parts;
 mod read;
-#[cfg(test)]
-mod tests;
 
 pub use entry::{CoNames, Entry, LITERAL_LIMIT, Lexicon};
 pub use gr_base::Memory;

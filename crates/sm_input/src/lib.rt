@@ -49,8 +49,6 @@ pub mod laws;
 mod literals;
 mod raw;
 mod read;
-#[cfg(test)]
-mod tests;
 
 pub use gr_base::Memory;
 pub use input::{INPUT_LIMIT, Input, LITERAL_LIMIT};

@@ -1,4 +1,4 @@
-use super::*;
+use gr_store::*;
 use gr_terms::{SlotId, Sym, Term};
 
 const NUM: Sym = Sym(20);

@@ -1,5 +1,5 @@
-use crate::balanced;
-use crate::brackets::{Turn, depth_behind};
+use gr_grammar::balanced;
+use gr_grammar::brackets::{Turn, depth_behind};
 use std::test::Fail;
 
 #[test]

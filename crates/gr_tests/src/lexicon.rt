@@ -1,4 +1,4 @@
-use crate::{CoNames, Entry, Lexicon, read_lexicon};
+use lx_lexicon::{CoNames, Entry, Lexicon, read_lexicon};
 use gr_base::Items;
 use gr_symbols::Symbols;
 use gr_terms::{Bag, EMPTY, MARK, Sym, Term};

@@ -1,4 +1,4 @@
-use crate::Writer;
+use gr_texts::Writer;
 use gr_tokens::Kind;
 use std::test::Fail;
 

@@ -1,4 +1,4 @@
-use super::*;
+use sm_input::*;
 use gr_symbols::Symbols;
 use gr_terms::{Literal, Term};
 use gr_text::Place;

@@ -1,4 +1,4 @@
-use crate::{Kind, ReadRefusal, Token, tokens};
+use gr_tokens::{Kind, ReadRefusal, Token, tokens};
 use gr_text::Place;
 use std::alloc::{AllocError, Global};
 use std::test::Fail;

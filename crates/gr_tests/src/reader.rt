@@ -1,8 +1,8 @@
-use crate::brackets::shallow;
-use crate::class::Class;
-use crate::complaints::{Complaint, Complaints, Fault};
-use crate::places::{breaks_off, place_of_token};
-use crate::reader::{Reader, Stop};
+use gr_reader::brackets::shallow;
+use gr_reader::class::Class;
+use gr_reader::complaints::{Complaint, Complaints, Fault};
+use gr_reader::places::{breaks_off, place_of_token};
+use gr_reader::reader::{Reader, Stop};
 use gr_symbols::Symbols;
 use gr_terms::Sym;
 use gr_text::Place;

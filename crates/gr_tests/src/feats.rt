@@ -3,7 +3,7 @@ ghost use Rattle.gr_base.specs.Lists.{Each};
 ghost use Rattle.gr_store.specs.Contents.{IsMade};
 ghost use Rattle.gr_feats.specs.Loading.{counted_from};
 
-use super::*;
+use gr_feats::*;
 use gr_store::{Room, Store};
 use gr_symbols::Symbols;
 use gr_terms::{Bag, CAT, FOOT, LEX, Literals, MARK, NAME, SlotId, Sym, Term};

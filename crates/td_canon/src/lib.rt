@@ -31,6 +31,3 @@ mod writing;
 pub use gr_base::Memory;
 pub use tree_set::{ClassTrees, TreeSet};
 pub use writing::canonical_text;
-
-#[cfg(test)]
-mod tests;

@@ -11,5 +11,4 @@ pub mod Lawfulness
 pub mod Whole
 pub mod Heads
 pub mod Deciding
-pub mod TestLemmas
 pub mod OneForm

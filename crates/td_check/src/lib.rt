@@ -48,8 +48,6 @@ mod load;
 mod sets;
 mod shape;
 mod sides;
-#[cfg(test)]
-mod tests;
 
 use gr_store::Store;
 use load::{link_sets, load_network, make_numbers};

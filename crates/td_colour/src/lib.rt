@@ -30,9 +30,6 @@ ghost use Rattle.td_forest.specs.Steps.{forest_of};
 ghost use Rattle.td_desc.specs.Descriptions.{description_of};
 ghost use Rattle.td_colour.specs.Colours.{IsAllowed, IsBeside, both};
 
-#[cfg(test)]
-mod tests;
-
 use td_desc::{Colour, Description};
 use td_forest::{Forest, Relation};
 

@@ -37,8 +37,6 @@
 
 mod forest;
 pub mod laws;
-#[cfg(test)]
-mod tests;
 
 pub use forest::Forest;
 

@@ -42,6 +42,3 @@ pub use link::link_nodes;
 pub use listing::attributes;
 pub use loading::{add_description, load};
 pub use tree::tree_of;
-
-#[cfg(test)]
-mod tests;

@@ -15,4 +15,3 @@ pub mod Exploring
 pub mod Texts
 pub mod Solving
 pub mod Adding
-pub mod SketchLemmas

@@ -5,4 +5,3 @@ pub mod Candidates
 pub mod Choices
 pub mod Tasks
 pub mod Turns
-pub mod Sketches

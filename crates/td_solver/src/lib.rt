@@ -55,11 +55,7 @@ mod candidates;
 mod holds;
 pub mod laws;
 mod search;
-#[cfg(test)]
-mod sketch;
 mod task;
-#[cfg(test)]
-mod tests;
 mod ties;
 
 use crate::search::{State, explore};

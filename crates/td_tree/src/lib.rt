@@ -125,6 +125,3 @@ impl Tree {
         }
     }
 }
-
-#[cfg(test)]
-mod tests;

@@ -1,5 +1,0 @@
-use Rattle.td_solver.specs.Sketches.{AddsNodes}
-use Rattle.td_solver.proofs.sketch.add_nodes.Given as goal
-
-abbrev pub invariant-loop-one : goal.invariant-loop-one
-invariant-loop-one l = AddsNodes l.colour l.fn.nodes l.nodes

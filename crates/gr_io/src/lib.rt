@@ -28,6 +28,3 @@ pub use memory_sink::MemorySink;
 pub use shelf::{FetchFault, Shelf};
 pub use sink::{Failed, Sink, WriteFault, write_all_of};
 pub use stdout_sink::StdoutSink;
-
-#[cfg(test)]
-mod tests;

@@ -44,8 +44,6 @@ mod class;
 mod found;
 pub mod laws;
 mod refusal;
-#[cfg(test)]
-mod tests;
 
 pub use class::compile_class;
 pub use refusal::CompileRefusal;

@@ -39,8 +39,6 @@ mod calls;
 pub mod laws;
 mod statement;
 mod terms;
-#[cfg(test)]
-mod tests;
 mod weigh;
 
 pub use calls::{say_dots, say_imports};

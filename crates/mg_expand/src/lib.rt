@@ -39,8 +39,6 @@ mod expander;
 mod exports;
 pub mod laws;
 mod step;
-#[cfg(test)]
-mod tests;
 mod walker;
 
 pub use expander::Expander;

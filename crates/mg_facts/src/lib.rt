@@ -34,8 +34,6 @@ mod ledger;
 mod marks;
 mod names;
 mod stated;
-#[cfg(test)]
-mod tests;
 mod variable;
 
 pub use facts::Facts;

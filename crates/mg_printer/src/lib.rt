@@ -20,8 +20,6 @@ mod blocks;
 mod bodies;
 mod items;
 pub mod laws;
-#[cfg(test)]
-mod tests;
 mod values;
 
 ghost use Rattle.std.specs.Prelude.{◌≡◌, string_bytes, IfOk};

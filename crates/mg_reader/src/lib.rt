@@ -49,12 +49,8 @@ mod literals;
 mod notes;
 mod properties;
 mod reader;
-#[cfg(test)]
-mod shown;
 mod statements;
 mod terms;
-#[cfg(test)]
-mod tests;
 
 pub use answer::read_metagrammar;
 pub use lexeme::{Class, Kind, Lexeme};

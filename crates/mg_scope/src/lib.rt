@@ -58,8 +58,6 @@ mod ranks;
 mod refusal;
 mod resolved;
 mod table;
-#[cfg(test)]
-mod tests;
 mod uses;
 mod variables;
 

@@ -16,8 +16,6 @@ mod block;
 mod body;
 mod item;
 mod row;
-#[cfg(test)]
-mod tests;
 
 pub use block::{Kid, Kids, NodeBlock, Paint, Relate, SynItem, SynItems};
 pub use body::{Alternative, Bag, Body, Literal, Literals, Ref, Side, Sides, Statement};

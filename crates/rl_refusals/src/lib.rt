@@ -12,6 +12,3 @@ mod refusal;
 pub use gr_base::Memory;
 pub use line::push_line;
 pub use refusal::{Refusal, Role};
-
-#[cfg(test)]
-mod tests;

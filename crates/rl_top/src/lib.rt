@@ -35,8 +35,6 @@ mod compiling;
 mod outcome;
 mod refusals;
 mod status;
-#[cfg(test)]
-mod tests;
 
 ghost use Rattle.std.specs.Prelude.{◌≡◌, ◌≢◌, ◌↔◌, ℕ, List, IsTrue, ◌<◌, ◌≤◌, ◌⊎◌};
 ghost use Rattle.gr_io.specs.Outside.{Rose};

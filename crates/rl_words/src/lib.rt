@@ -11,9 +11,6 @@ ghost use Rattle.std.specs.Option.{option_map};
 ghost use Rattle.rl_words.specs.Requests.{AsksCompile, IsBudget, IsFileWord, models_word};
 ghost use Rattle.rl_words.specs.Reading.{AsksBehind};
 
-#[cfg(test)]
-mod tests;
-
 use gr_text::{Name, read_decimal};
 
 /// The budget of models where the words give none.

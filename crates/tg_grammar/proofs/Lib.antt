@@ -8,4 +8,3 @@ pub mod GrammarLemmas
 pub mod ShapeLemmas
 pub mod FactLemmas
 pub mod RefusalLemmas
-pub mod TestLemmas

@@ -73,6 +73,3 @@ pub use named::{has_named_marks, marks_are_named};
 pub use refusal::GrammarRefusal;
 pub use spots::{Kind, has_category, is_auxiliary, kind_of};
 pub use survey::first_flaw;
-
-#[cfg(test)]
-mod tests;

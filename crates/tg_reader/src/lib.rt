@@ -92,6 +92,3 @@ pub fn read_tree(alloc: Global, text: &str, symbols: &mut Symbols) -> Result<Opt
         Ok(None)
     }
 }
-
-#[cfg(test)]
-mod tests;

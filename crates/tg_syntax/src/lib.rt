@@ -42,8 +42,6 @@ mod class;
 pub mod laws;
 mod reader;
 mod scanner;
-#[cfg(test)]
-mod tests;
 mod trees;
 
 pub use answer::{check_syntax, place_with};

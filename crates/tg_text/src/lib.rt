@@ -44,6 +44,3 @@ mod writing;
 pub use gr_base::Memory;
 pub use reading::read_grammar;
 pub use writing::write_grammar;
-
-#[cfg(test)]
-mod tests;

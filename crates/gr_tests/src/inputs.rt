@@ -1,8 +1,8 @@
-use sm_input::*;
 use gr_symbols::Symbols;
 use gr_terms::{Literal, Term};
 use gr_text::Place;
 use gr_tokens::ReadRefusal;
+use sm_input::*;
 use std::alloc::{AllocError, Global};
 use std::test::Fail;
 

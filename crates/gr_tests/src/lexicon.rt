@@ -1,9 +1,9 @@
-use lx_lexicon::{CoNames, Entry, Lexicon, read_lexicon};
 use gr_base::Items;
 use gr_symbols::Symbols;
 use gr_terms::{Bag, EMPTY, MARK, Sym, Term};
 use gr_text::Place;
 use gr_tokens::ReadRefusal;
+use lx_lexicon::{CoNames, Entry, Lexicon, read_lexicon};
 use std::alloc::Global;
 use std::process::Abort;
 use std::test::Fail;

@@ -1,5 +1,5 @@
-use gr_tokens::{Kind, ReadRefusal, Token, tokens};
 use gr_text::Place;
+use gr_tokens::{Kind, ReadRefusal, Token, tokens};
 use std::alloc::{AllocError, Global};
 use std::test::Fail;
 

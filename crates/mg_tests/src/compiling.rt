@@ -1,7 +1,7 @@
-use mg_compile::{CompileRefusal, compile_class};
 use gr_base::Memory;
 use gr_symbols::Symbols;
 use gr_terms::Sym;
+use mg_compile::{CompileRefusal, compile_class};
 use mg_reader::read_metagrammar;
 use mg_scope::resolve;
 use std::alloc::Global;

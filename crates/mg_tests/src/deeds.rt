@@ -2,8 +2,8 @@ ghost use Rattle.std.specs.Prelude.{◌≡◌, ◌+◌, ◌^◌, ◌<◌, ◌++�
 ghost use Rattle.mg_deeds.specs.Weights.{statement_weight};
 ghost use Rattle.mg_deeds.specs.Sayings.{statement_said};
 
-use mg_deeds::*;
 use gr_terms::{CAT, NAME, Sym};
+use mg_deeds::*;
 use mg_facts::{Facts, Memory};
 use mg_syntax::{
     Bag, Kid, Kids, Literal, NodeBlock, Paint, Ref, Relate, Row, Side, Statement, SynItem,

@@ -1,9 +1,9 @@
 //! Expansions of classes of small metagrammars, told by the predicates of their literals.
-use mg_expand::{Expander, Step};
 use gr_base::Memory;
 use gr_symbols::Symbols;
 use gr_terms::{Sym, Term};
 use gr_text::Budget;
+use mg_expand::{Expander, Step};
 use mg_reader::read_metagrammar;
 use mg_scope::{Resolved, resolve};
 use std::alloc::Global;
@@ -223,8 +223,12 @@ fn exporting(alloc: Global, count: u32) -> Result<String, Memory> {
     }
     let names = names.as_str();
     let last = count.saturating_sub(1);
-    let classes = format!(in alloc; "class A import B[] {{ ?x{last} = q }} class B export {names} {names}")?;
-    let body = format!(in alloc; "declare {names} {{ ?x{last} = p | ?x{last} = q ; <sem>{{ b() }} }}")?;
+    let classes = format!(in alloc;
+        "class A import B[] {{ ?x{last} = q }} class B export {names} {names}"
+    )?;
+    let body = format!(in alloc;
+        "declare {names} {{ ?x{last} = p | ?x{last} = q ; <sem>{{ b() }} }}"
+    )?;
     Ok(format!(in alloc; "{classes} {body}")?)
 }
 

@@ -1,5 +1,5 @@
-use mg_facts::*;
 use gr_terms::{Assertion, CAT, MARK, Term};
+use mg_facts::*;
 use std::test::Fail;
 use td_desc::{Colour, Dominance, Related};
 

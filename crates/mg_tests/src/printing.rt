@@ -1,6 +1,6 @@
-use mg_printer::print_metagrammar;
 use gr_base::Memory;
 use gr_symbols::Symbols;
+use mg_printer::print_metagrammar;
 use mg_reader::read_metagrammar;
 use std::alloc::Global;
 use std::test::Fail;

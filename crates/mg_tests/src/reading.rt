@@ -1,9 +1,9 @@
 //! Rows of whole texts, refusals with their places, and every construct by its spelling.
-use mg_reader::*;
 use crate::shown::shown;
 use gr_symbols::Symbols;
 use gr_text::Place;
 use gr_tokens::ReadRefusal;
+use mg_reader::*;
 use mg_syntax::Metagrammar;
 use std::alloc::Global;
 use std::test::Fail;

@@ -1,6 +1,6 @@
-use mg_scope::*;
 use gr_base::Memory;
 use gr_terms::{CAT, Sym, Syms};
+use mg_scope::*;
 use mg_syntax::{
     Alternative, Bag, Body, Class, Item, Metagrammar, NodeBlock, Ref, Relate, Row, Side, Statement,
     SynItem,

@@ -1,5 +1,5 @@
-use mg_syntax::*;
 use gr_terms::{CAT, MARK, NAME};
+use mg_syntax::*;
 use std::alloc::Global;
 use std::test::Fail;
 

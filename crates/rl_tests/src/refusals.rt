@@ -2,11 +2,11 @@
 ghost use Rattle.gr_symbols.specs.Numbers.{first_texts};
 ghost use Rattle.rl_refusals.specs.Lines.{HasTexts};
 
-use rl_refusals::*;
 use gr_symbols::Symbols;
 use gr_terms::{ANCHOR, COANCHOR, EMPTY, FOOT, MARK, Syms};
 use gr_text::Place;
 use mg_syntax::Ref;
+use rl_refusals::*;
 use std::test::Fail;
 
 const PLACE: Place = Place {

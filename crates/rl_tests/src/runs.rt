@@ -1,9 +1,9 @@
 //! Runs over files and an output in memory.
 ghost use Rattle.std.specs.Prelude.{◌<◌};
 
-use rl_top::{Status, run_one};
 use gr_io::{MemoryShelf, MemorySink};
 use gr_text::Name;
+use rl_top::{Status, run_one};
 use std::alloc::{AllocError, Global};
 use std::test::Fail;
 

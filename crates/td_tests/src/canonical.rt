@@ -3,12 +3,12 @@ ghost use Rattle.gr_base.specs.Lists.{Each};
 ghost use Rattle.td_tree.specs.Trees.{AreTreeNodes};
 ghost use Rattle.td_canon.specs.CanonicalTexts.{IsNamedBag, IsNamedLiteral, IsNamedNode, IsNamedTerm, IsNamedTree};
 
-use td_canon::*;
 use gr_base::Items;
 use gr_symbols::Symbols;
 use gr_terms::{Bag, Literal, Literals, Term, Terms};
 use std::alloc::Global;
 use std::test::Fail;
+use td_canon::*;
 use td_tree::{Tree, TreeNode, TreeNodes};
 
 /// The names that the trees have.

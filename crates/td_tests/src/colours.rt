@@ -1,7 +1,7 @@
 //! The colour rule at tree nodes of small forests.
-use td_colour::allowed;
 use gr_base::Items;
 use std::test::Fail;
+use td_colour::allowed;
 use td_desc::{Colour, DescribedNode, DescribedNodes, Description, Network, SlotId};
 use td_forest::Forest;
 

@@ -1,6 +1,6 @@
 use gr_base::Items;
-use td_desc::*;
 use std::test::Fail;
+use td_desc::*;
 
 #[test]
 fn a_description_has_a_node(rt: HostRuntime) -> Result<(), Fail> {

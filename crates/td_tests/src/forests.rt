@@ -1,6 +1,6 @@
 //! Forests made by steps.
-use td_forest::{Forest, Relation};
 use std::test::Fail;
+use td_forest::{Forest, Relation};
 
 #[test]
 fn five_nodes_come_and_go(rt: HostRuntime) -> Result<(), Fail> {

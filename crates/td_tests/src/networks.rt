@@ -1,6 +1,6 @@
-use td_model::*;
 use gr_terms::{Assertion, CAT, NAME, Network, SlotId, Sym, Term};
 use std::test::Fail;
+use td_model::*;
 
 #[test]
 fn attributes_stand_once_by_rising_number(rt: HostRuntime) -> Result<(), Fail> {

@@ -1,12 +1,12 @@
 //! Small descriptions and their models.
 use crate::sketch::{Sketch, describe};
-use td_solver::{Solved, solve};
 use gr_base::Memory;
 use gr_symbols::Symbols;
 use gr_text::Budget;
 use std::alloc::Global;
 use std::test::Fail;
 use td_canon::TreeSet;
+use td_solver::{Solved, solve};
 
 /// The categories of the first nodes.
 const CATEGORIES: &str = "o0.cat=cat o1.cat=mark o2.cat=name o3.cat=foot";

@@ -3,7 +3,6 @@ ghost use Rattle.gr_base.specs.Lists.{Each};
 ghost use Rattle.td_tree.specs.Trees.{AreTreeNodes};
 ghost use Rattle.td_canon.specs.CanonicalTexts.{IsNamedBag, IsNamedNode, IsNamedTerm};
 
-use tg_grammar::*;
 use gr_base::Items;
 use gr_symbols::Symbols;
 use gr_terms::{Bag, Sym, Term};
@@ -11,6 +10,7 @@ use std::alloc::Global;
 use std::test::Fail;
 use td_canon::{ClassTrees, TreeSet};
 use td_tree::{Tree, TreeNode, TreeNodes};
+use tg_grammar::*;
 
 /// The names that the trees have.
 const NAMES: [&str; 8] = ["adj", "n", "np", "s", "the", "v", "w", "x"];

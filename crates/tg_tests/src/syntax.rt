@@ -1,11 +1,11 @@
 //! Whole texts and texts that break off, with their places.
 ghost use Rattle.std.specs.Prelude.{◌≡◌, ◌≤◌, length};
 
-use tg_syntax::*;
 use gr_text::Place;
 use std::alloc::Global;
 use std::process::Abort;
 use std::test::Fail;
+use tg_syntax::*;
 
 /// The text that `compile` writes for a small grammar.
 const SMALL: &[u8] = b"grammar 1

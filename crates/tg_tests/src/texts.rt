@@ -1,13 +1,13 @@
 //! Grammar text of small lists of classes, and what is read of it.
 ghost use Rattle.std.specs.Prelude.{◌≡◌};
 
-use tg_text::*;
 use gr_symbols::Symbols;
 use gr_terms::{FOOT, MARK, Sym};
 use gr_text::{Cursor, Place};
 use std::alloc::Global;
 use std::test::Fail;
 use td_canon::{ClassTrees, TreeSet};
+use tg_text::*;
 
 /// The most bytes of a text.
 const TEXT_LIMIT: usize = 1_048_576;

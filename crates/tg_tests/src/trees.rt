@@ -1,10 +1,10 @@
 //! Texts that are those of trees, and texts that are not.
 ghost use Rattle.std.specs.Prelude.{◌≤◌, length};
 
-use tg_reader::*;
 use gr_symbols::Symbols;
 use std::alloc::Global;
 use std::test::Fail;
+use tg_reader::*;
 
 /// Whether the text is that of a tree, by a table of its own.
 fn is_read(alloc: Global, text: &str) -> Result<bool, Memory>

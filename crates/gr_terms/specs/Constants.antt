@@ -35,3 +35,7 @@ EMPTY = 9
 -- all of them
 abbrev pub first_numbers : List ℕ
 first_numbers = CAT ∷ MARK ∷ NAME ∷ ANCHOR ∷ COANCHOR ∷ SUBST ∷ FOOT ∷ LEX ∷ NADJ ∷ EMPTY ∷ []
+
+-- those that are marks of nodes
+abbrev pub mark_numbers : List ℕ
+mark_numbers = ANCHOR ∷ COANCHOR ∷ SUBST ∷ FOOT ∷ LEX ∷ NADJ ∷ []

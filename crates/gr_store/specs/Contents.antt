@@ -1,5 +1,5 @@
 -- What a store is for its callers.
-use Rattle.std.specs.Prelude.{◌≡◌, ℕ, ◌+◌, ◌-◌, ◌<◌, ◌≤◌, List, [], ◌∷◌, ◌++◌, length, take}
+use Rattle.std.specs.Prelude.{◌≡◌, ℕ, ◌+◌, ◌-◌, ◌^◌, ◌<◌, ◌≤◌, List, [], ◌∷◌, ◌++◌, length, take}
 use Rattle.gr_base.specs.Lists.{IsAmong, Each}
 use Rattle.gr_terms.specs.declared.Sym.{Sym}
 use Rattle.gr_terms.specs.declared.Term.{Term}
@@ -59,6 +59,13 @@ pub record IsFirstValue {V S : Type 0} (N : List (net.Assertion V S)) (s : S) (a
 -- the numbers that a store uses now
 abbrev pub mark_of : Contents → Mark
 mark_of c = record { vars = c.vars; slots = c.slots; entries = entry_count c.accepted; assertions = length c.accepted }
+
+-- how many variables, slots, entries and assertions there are fits 32 bits each
+pub record Fits (c : Contents) : Type 0 where
+  pub vars : c.vars < 2 ^ 32
+  pub slots : c.slots < 2 ^ 32
+  pub entries : entry_count c.accepted < 2 ^ 32
+  pub assertions : length c.accepted < 2 ^ 32
 
 -- the mark is of a first part of the store
 pub record IsEarlier (c : Contents) (m : Mark) : Type 0 where

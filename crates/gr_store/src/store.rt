@@ -5,7 +5,7 @@ ghost use Rattle.gr_terms.specs.Networks.{Agrees, AreLinked, HasValue, name};
 ghost use Rattle.gr_terms.specs.Networks as net;
 ghost use Rattle.gr_terms.specs.Views.{term_of, network_of};
 ghost use Rattle.gr_terms.specs.declared.Term.{Term};
-ghost use Rattle.gr_store.specs.Contents.{rank, IsMade, IsEarlier, IsFirstValue, Grows, mark_of, first_part, accepting, entry_attributes, entry_count};
+ghost use Rattle.gr_store.specs.Contents.{rank, Fits, IsMade, MentionsAll, IsEarlier, IsFirstValue, Grows, mark_of, first_part, accepting, entry_attributes, entry_count};
 
 use crate::Memory;
 use crate::bindings::Bindings;
@@ -227,6 +227,16 @@ impl Store {
         ensures agrees { Agrees (network_of self.now.accepted) }
     {
         self.used
+    }
+
+    /// The accepted assertions agree, they are of variables and slots that were made, and all their
+    /// numbers fit. The call does nothing.
+    pub fn agrees(&self)
+        ensures agrees { Agrees (network_of self.now.accepted) }
+        ensures mentions { MentionsAll self.now.vars self.now.slots self.now.accepted }
+        ensures fits { Fits self.now }
+    {
+        let _ = &self.terms;
     }
 
     /// The room that is spare now.

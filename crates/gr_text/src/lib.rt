@@ -1,6 +1,6 @@
 //! Places in a text, names and their spelling, a cursor over bytes, words, decimals, and budgets.
 //!
-//! `specs/Places` has lines and columns, `specs/Cursors` what a cursor is to its callers,
+//! `specs/Limits` says which texts are short enough to be read, `specs/Places` has lines and columns, `specs/Cursors` what a cursor is to its callers,
 //! `specs/Words` what a word is and how a name is spelled, and `specs/Decimals` what a decimal is.
 #![tactic(auto)]
 
@@ -55,6 +55,18 @@ impl Name {
     }
 }
 
+ghost use Rattle.gr_text.specs.Limits.{IsShort, byte_limit};
+
+/// The most bytes of a text that is read.
+pub const BYTE_LIMIT: usize = 1_048_576;
+
+/// Whether the text has at most [`BYTE_LIMIT`] bytes.
+pub fn is_short(bytes: &[u8]) -> bool
+    ensures { IsTrue result ↔ IsShort bytes.now }
+{
+    bytes.len() <= BYTE_LIMIT
+}
+
 // The only byte that ends a line.
 const LINE_FEED: u8 = b'\n';
 
@@ -85,7 +97,7 @@ impl<'a> Cursor<'a> {
 
     /// A cursor at the first byte.
     pub fn new(bytes: &'a [u8]) -> Cursor<'a>
-        requires { length bytes.now ≤ 1048576 }
+        requires { IsShort bytes.now }
         ensures { result ≡ record { read = []; left = bytes.now } }
     {
         Cursor {

@@ -3,6 +3,7 @@ use Rattle.std.specs.Prelude.{◌≡◌, ℕ, ◌+◌, ◌-◌, ◌<◌, ◌≤�
 use Rattle.gr_base.specs.Lists.{IsAmong}
 use Rattle.gr_base.specs.Forests.{Forest, empty, tree, size}
 use Rattle.td_forest.specs.declared.Made.{Made}
+use Rattle.td_forest.specs.Limits.{node_limit}
 use Rattle.td_forest.specs.Nodes.{IsIn}
 use Rattle.td_forest.specs.Spots.{Spot, join, wrap, down, along, under_spot}
 use Rattle.td_forest.specs.Steps.{forest_of, IsGrown, trees_of, width, first_trees}
@@ -66,11 +67,11 @@ pub data IsEndAt (here : List Bool) (first behind : List ℕ) (k place end : ℕ
 
 -- the places behind those of the nodes, by the places where they begin, as far as the first k entries tell
 abbrev pub AreEnds : List Bool → List ℕ → List ℕ → ℕ → List ℕ → Type 0
-AreEnds here first behind k ends = (place : ℕ) → place < 24 → IsEndAt here first behind k place (slice_index_or ends place 0)
+AreEnds here first behind k ends = (place : ℕ) → place < node_limit → IsEndAt here first behind k place (slice_index_or ends place 0)
 
--- what a table of 24 places has at one
+-- what a table of a place for each node has at one
 abbrev pub IsReadAt : List ℕ → ℕ → ℕ → Type 0
-IsReadAt ends place end = place < 24 → end ≡ slice_index_or ends place 0
+IsReadAt ends place end = place < node_limit → end ≡ slice_index_or ends place 0
 
 -- where the list of the children of a node begins, and the list of the roots
 abbrev pub start_of : Option ℕ → List ℕ → ℕ
@@ -83,8 +84,8 @@ IsTreeEnd made place end = (set : List ℕ) (kids more : Forest (List ℕ)) → 
 
 -- the table has the places behind the trees, and no tree begins beyond it
 pub record AreTreeEnds (made : List Made) (ends : List ℕ) : Type 0 where
-  pub within : (place : ℕ) → place < 24 → IsTreeEnd made place (slice_index_or ends place 0)
-  pub beyond : (place end : ℕ) → 24 ≤ place → IsTreeEnd made place end
+  pub within : (place : ℕ) → place < node_limit → IsTreeEnd made place (slice_index_or ends place 0)
+  pub beyond : (place end : ℕ) → node_limit ≤ place → IsTreeEnd made place end
 
 -- the place is the one behind so many trees from a place on
 abbrev pub AreSkipped : List Made → ℕ → ℕ → ℕ → Type 0
@@ -102,14 +103,14 @@ free (b ∷ bs) = (if b then 0 else 1) + free bs
 
 -- the arrays hold the places of the nodes of the forest
 pub record ArePlaces (F : Forest (List ℕ)) (here : List Bool) (first behind : List ℕ) : Type 0 where
-  pub low : (y : ℕ) → IsIn F y → y < 24
+  pub low : (y : ℕ) → IsIn F y → y < node_limit
   pub there : (y : ℕ) → IsIn F y → slice_index_or here y false ≡ true
   pub only : (y : ℕ) → slice_index_or here y false ≡ true → IsIn F y
   pub spans : (y : ℕ) → IsIn F y → IsSpan 0 F y (slice_index_or first y 0) (slice_index_or behind y 0)
 
 pub record IsKept (made : List Made) (count : ℕ) (here : List Bool) (first behind : List ℕ) : Type 0 where
-  pub cells : length made ≡ 24
-  pub room : count + free here ≡ 24
+  pub cells : length made ≡ node_limit
+  pub room : count + free here ≡ node_limit
   pub grown : IsGrown empty (take count made)
   pub places : ArePlaces (forest_of (take count made)) here first behind
 
@@ -119,13 +120,13 @@ pub record IsGreatestOf (here : List Bool) (behind : List ℕ) (k most : ℕ) : 
   pub one : (most ≡ 0) ⊎ ((y : ℕ) × (slice_index_or here y false ≡ true) × (slice_index_or behind y 0 ≡ most))
 
 abbrev pub IsGreatest : List Bool → List ℕ → ℕ → Type 0
-IsGreatest here behind most = IsGreatestOf here behind 24 most
+IsGreatest here behind most = IsGreatestOf here behind node_limit most
 
 -- the places of the first of the children of a node, or of the roots, and behind them all
 pub record IsRange (made : List Made) (under : Option ℕ) (start end : ℕ) : Type 0 where
   pub starts : StartsAt 0 (forest_of made) start (trees_of under (forest_of made))
   pub ends : end ≡ start + size (trees_of under (forest_of made))
-  pub high : end ≤ 24
+  pub high : end ≤ node_limit
 
 -- so many trees of the list lead from the start to a place
 pub record IsCounted (made : List Made) (under : Option ℕ) (start trees at : ℕ) : Type 0 where

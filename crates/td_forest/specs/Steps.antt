@@ -4,6 +4,7 @@ use Rattle.gr_base.specs.Forests.{Forest, empty, tree, beside, map_forest}
 use Rattle.td_forest.specs.declared.Step.{Step}
 use Rattle.td_forest.specs.declared.Step.TheVariants.{Merge, Insert}
 use Rattle.td_forest.specs.declared.Made.{Made}
+use Rattle.td_forest.specs.Limits.{node_limit}
 use Rattle.td_forest.specs.Nodes.{IsIn}
 
 -- how many trees the forest has
@@ -72,7 +73,7 @@ IsStep F (Insert (Some u) from to) = IsIn F u × (from ≤ to) × (to ≤ width 
 
 -- a node that is not there can be added by the step
 pub record CanMake (F : Forest (List ℕ)) (m : Made) : Type 0 where
-  pub low : m.node < 24
+  pub low : m.node < node_limit
   pub new : IsIn F m.node → ⊥
   pub step : IsStep F m.step
 

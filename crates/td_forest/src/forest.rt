@@ -3,6 +3,7 @@
 ghost use Rattle.std.specs.Prelude.{◌≡◌, ◌≢◌, ℕ, ◌+◌, ◌-◌, ◌<◌, ◌≤◌, ◌↔◌, ◌⊎◌, List, [], ◌∷◌, ◌++◌, Bool, false, true, length, IsTrue, MatchOption, slice_get, slice_index, slice_index_or};
 ghost use Rattle.td_forest.specs.declared.Made.{Made};
 ghost use Rattle.td_forest.specs.declared.Step.{Step};
+ghost use Rattle.td_forest.specs.Limits.{node_limit};
 ghost use Rattle.td_forest.specs.Nodes.{IsIn, IsForest, Relates, Stands};
 ghost use Rattle.td_forest.specs.Steps.{forest_of, CanMake, IsGrown, IsHere, trees_of, width};
 ghost use Rattle.td_forest.specs.Spans.{IsShiftedOn, IsShiftedBack, AreShiftedOn, AreShiftedBack, AreEnds, IsReadAt, AreTreeEnds, AreSkipped, IsStart, IsGreatest, IsRange, NoneAt, IsLeastAt, IsCover, IsHighest};
@@ -10,18 +11,21 @@ ghost use Rattle.td_forest.specs.Moves.{IsBase, IsMoved, moved, stay};
 ghost use Rattle.td_forest.specs.Walks.{HasAt, IsHeadAt, parents};
 ghost use Rattle.gr_base.specs.Forests.{empty, size};
 
-use crate::{Made, Relation, Step};
+use crate::{Made, NODE_LIMIT, Relation, Step};
 use std::marker::Model;
 
-/// A forest of at most 24 description nodes, which takes no memory. Contracts see the steps that
+/// The limit of the numbers of nodes, which are bytes.
+const NUMBER_LIMIT: u8 = NODE_LIMIT as u8;
+
+/// A forest of at most [`NODE_LIMIT`] description nodes, which takes no memory. Contracts see the steps that
 /// made it, oldest first.
 #[derive(Drop)]
 pub struct Forest {
-    made: [Made; 24],
+    made: [Made; NODE_LIMIT],
     count: usize,
-    here: [bool; 24],
-    first: [u8; 24],
-    behind: [u8; 24],
+    here: [bool; NODE_LIMIT],
+    first: [u8; NODE_LIMIT],
+    behind: [u8; NODE_LIMIT],
 }
 
 impl Model for Forest {
@@ -67,12 +71,18 @@ fn shifted_back(place: u8, first: u8, behind: u8) -> (u8, u8)
 }
 
 /// Moves the places of all nodes that are here.
-fn make_room(here: &[bool; 24], first: &mut [u8; 24], behind: &mut [u8; 24], start: u8, place: u8)
+fn make_room(
+    here: &[bool; NODE_LIMIT],
+    first: &mut [u8; NODE_LIMIT],
+    behind: &mut [u8; NODE_LIMIT],
+    start: u8,
+    place: u8,
+)
     requires { (k : ℕ) → slice_index_or here.now k false ≡ true → (slice_index first.old k < 255) × (slice_index behind.old k < 255) }
     ensures shifted { AreShiftedOn start place here.now first.old behind.old first.new behind.new }
-    ensures cells { (length first.new ≡ 24) × (length behind.new ≡ 24) }
+    ensures cells { (length first.new ≡ node_limit) × (length behind.new ≡ node_limit) }
 {
-    for k in 0..24usize {
+    for k in 0..NODE_LIMIT {
         if here[k] {
             let (f, b) = shifted(start, place, first[k], behind[k]);
             first[k] = f;
@@ -82,11 +92,16 @@ fn make_room(here: &[bool; 24], first: &mut [u8; 24], behind: &mut [u8; 24], sta
 }
 
 /// Moves the places of all nodes that are here back.
-fn close_room(here: &[bool; 24], first: &mut [u8; 24], behind: &mut [u8; 24], place: u8)
+fn close_room(
+    here: &[bool; NODE_LIMIT],
+    first: &mut [u8; NODE_LIMIT],
+    behind: &mut [u8; NODE_LIMIT],
+    place: u8,
+)
     requires { (k : ℕ) → slice_index_or here.now k false ≡ true → slice_index first.old k < slice_index behind.old k }
     ensures { AreShiftedBack place here.now first.old behind.old first.new behind.new }
 {
-    for k in 0..24usize {
+    for k in 0..NODE_LIMIT {
         if here[k] {
             let (f, b) = shifted_back(place, first[k], behind[k]);
             first[k] = f;
@@ -96,12 +111,16 @@ fn close_room(here: &[bool; 24], first: &mut [u8; 24], behind: &mut [u8; 24], pl
 }
 
 /// For each place the place behind the tree that begins there.
-fn ends(here: &[bool; 24], first: &[u8; 24], behind: &[u8; 24]) -> [u8; 24]
-    requires { (k : ℕ) → slice_index_or here.now k false ≡ true → slice_index first.now k < 24 }
-    ensures { AreEnds here.now first.now behind.now 24 result }
+fn ends(
+    here: &[bool; NODE_LIMIT],
+    first: &[u8; NODE_LIMIT],
+    behind: &[u8; NODE_LIMIT],
+) -> [u8; NODE_LIMIT]
+    requires { (k : ℕ) → slice_index_or here.now k false ≡ true → slice_index first.now k < node_limit }
+    ensures { AreEnds here.now first.now behind.now node_limit result }
 {
-    let mut ends = [0; 24];
-    for y in 0..24usize {
+    let mut ends = [0; NODE_LIMIT];
+    for y in 0..NODE_LIMIT {
         if here[y] {
             ends[first[y] as usize] = behind[y];
         }
@@ -110,10 +129,10 @@ fn ends(here: &[bool; 24], first: &[u8; 24], behind: &[u8; 24]) -> [u8; 24]
 }
 
 /// The place behind the tree at a place, where there is one.
-fn end_of(ends: &[u8; 24], place: u8) -> u8
+fn end_of(ends: &[u8; NODE_LIMIT], place: u8) -> u8
     ensures { IsReadAt ends.now place result }
 {
-    if place < 24 {
+    if place < NUMBER_LIMIT {
         ends[place as usize]
     } else {
         place
@@ -121,11 +140,11 @@ fn end_of(ends: &[u8; 24], place: u8) -> u8
 }
 
 /// The greatest of the places of those that are here.
-fn greatest(here: &[bool; 24], behind: &[u8; 24]) -> u8
+fn greatest(here: &[bool; NODE_LIMIT], behind: &[u8; NODE_LIMIT]) -> u8
     ensures { IsGreatest here.now behind.now result }
 {
     let mut most = 0;
-    for y in 0..24usize {
+    for y in 0..NODE_LIMIT {
         if here[y] && behind[y] > most {
             most = behind[y];
         }
@@ -134,11 +153,11 @@ fn greatest(here: &[bool; 24], behind: &[u8; 24]) -> u8
 }
 
 /// The least number above all nodes that are here, or 0.
-fn highest(here: &[bool; 24]) -> u8
-    ensures { IsHighest here.now 24 result }
+fn highest(here: &[bool; NODE_LIMIT]) -> u8
+    ensures { IsHighest here.now node_limit result }
 {
     let mut most = 0;
-    for y in 0..24u8 {
+    for y in 0..NUMBER_LIMIT {
         if here[y as usize] {
             most = y + 1;
         }
@@ -147,10 +166,10 @@ fn highest(here: &[bool; 24]) -> u8
 }
 
 /// The least node that begins at a place.
-fn least_at(here: &[bool; 24], first: &[u8; 24], place: u8) -> Option<u8>
-    ensures { MatchOption result (NoneAt here.now first.now place 24) (IsLeastAt here.now first.now place) }
+fn least_at(here: &[bool; NODE_LIMIT], first: &[u8; NODE_LIMIT], place: u8) -> Option<u8>
+    ensures { MatchOption result (NoneAt here.now first.now place node_limit) (IsLeastAt here.now first.now place) }
 {
-    for y in 0..24u8 {
+    for y in 0..NUMBER_LIMIT {
         if here[y as usize] && first[y as usize] == place {
             return Some(y);
         }
@@ -159,11 +178,16 @@ fn least_at(here: &[bool; 24], first: &[u8; 24], place: u8) -> Option<u8>
 }
 
 /// Where the last of the trees begins that begin before a place and end behind it.
-fn cover(here: &[bool; 24], first: &[u8; 24], behind: &[u8; 24], place: u8) -> Option<u8>
-    ensures { IsCover here.now first.now behind.now place 24 result }
+fn cover(
+    here: &[bool; NODE_LIMIT],
+    first: &[u8; NODE_LIMIT],
+    behind: &[u8; NODE_LIMIT],
+    place: u8,
+) -> Option<u8>
+    ensures { IsCover here.now first.now behind.now place node_limit result }
 {
     let mut last = None;
-    for y in 0..24usize {
+    for y in 0..NODE_LIMIT {
         if here[y] && first[y] < place && place < behind[y] {
             last = match last {
                 None => Some(first[y]),
@@ -183,11 +207,11 @@ impl Forest {
             made: [Made {
                 node: 0,
                 step: Step::Merge(0),
-            }; 24],
+            }; NODE_LIMIT],
             count: 0,
-            here: [false; 24],
-            first: [0; 24],
-            behind: [0; 24],
+            here: [false; NODE_LIMIT],
+            first: [0; NODE_LIMIT],
+            behind: [0; NODE_LIMIT],
         }
     }
 
@@ -195,17 +219,17 @@ impl Forest {
     /// in its turn.
     pub fn count(&self) -> usize
         ensures is { result ≡ length self.now }
-        ensures few { result ≤ 24 }
+        ensures few { result ≤ node_limit }
         ensures grown { IsGrown empty self.now }
     {
         self.count
     }
 
-    /// The least number above all nodes that are there, at most 24; 0 where no node is.
+    /// The least number above all nodes that are there, at most [`NODE_LIMIT`]; 0 where no node is.
     pub fn above(&self) -> u8
         ensures above { (x : ℕ) → IsIn (forest_of self.now) x → x < result }
         ensures least { (result ≡ 0) ⊎ IsIn (forest_of self.now) (result - 1) }
-        ensures few { result ≤ 24 }
+        ensures few { result ≤ node_limit }
         ensures forest { IsForest (forest_of self.now) }
     {
         highest(&self.here)
@@ -215,7 +239,7 @@ impl Forest {
     pub fn has(&self, node: u8) -> bool
         ensures { IsTrue result ↔ IsIn (forest_of self.now) node }
     {
-        node < 24 && self.here[node as usize]
+        node < NUMBER_LIMIT && self.here[node as usize]
     }
 
     /// How the tree nodes of two nodes stand to each other.
@@ -242,14 +266,14 @@ impl Forest {
     }
 
     /// For each place the place behind the tree there.
-    fn tree_ends(&self) -> [u8; 24]
+    fn tree_ends(&self) -> [u8; NODE_LIMIT]
         ensures { AreTreeEnds self.now result }
     {
         ends(&self.here, &self.first, &self.behind)
     }
 
     /// The place behind so many trees from a place on.
-    fn skip(&self, ends: &[u8; 24], place: u8, trees: u8) -> u8
+    fn skip(&self, ends: &[u8; NODE_LIMIT], place: u8, trees: u8) -> u8
         requires { AreTreeEnds self.now ends.now }
         ensures { AreSkipped self.now place trees result }
     {
@@ -277,14 +301,22 @@ impl Forest {
         requires b_here { IsIn (forest_of self.now) b }
         ensures { IsTrue result ↔ Relates (forest_of self.now) a b how }
     {
-        let _ = &self.made;
+        self.is_forest();
         self.relation(a, b) == how
+    }
+
+    /// The steps make a forest: the nodes of a tree node are a set, and no node stands twice. The
+    /// call does nothing.
+    fn is_forest(&self)
+        ensures { IsForest (forest_of self.now) }
+    {
+        let _ = &self.made;
     }
 
     /// How many tree nodes there are.
     pub fn size(&self) -> u8
         ensures is { result ≡ size (forest_of self.now) }
-        ensures few { result ≤ 24 }
+        ensures few { result ≤ node_limit }
     {
         greatest(&self.here, &self.behind)
     }
@@ -304,18 +336,18 @@ impl Forest {
     pub fn width(&self, under: Option<u8>) -> u8
         requires { IsHere (forest_of self.now) under }
         ensures is { result ≡ width (trees_of under (forest_of self.now)) }
-        ensures few { result ≤ 24 }
+        ensures few { result ≤ node_limit }
     {
         let (start, end) = self.range(under);
         let ends = self.tree_ends();
         let mut at = start;
-        for trees in 0..24u8 {
+        for trees in 0..NUMBER_LIMIT {
             if at == end {
                 return trees;
             }
             at = end_of(&ends, at);
         }
-        24
+        NUMBER_LIMIT
     }
 
     /// The number of a node's tree node in preorder, counted from 0.
@@ -345,8 +377,8 @@ impl Forest {
         cover(&self.here, &self.first, &self.behind, place)
     }
 
-    /// Puts a node into the tree node of another node. The node is below 24 and not there, and the
-    /// other is there. No node moves.
+    /// Puts a node into the tree node of another node. The node is below [`NODE_LIMIT`] and not
+    /// there, and the other is there. No node moves.
     pub fn merge(&mut self, node: u8, at: u8)
         requires { CanMake (forest_of self.old) (record { node = node; step = Step.Merge at }) }
         ensures made { self.new ≡ self.old ++ record { node = node; step = Step.Merge at } ∷ [] }
@@ -365,9 +397,9 @@ impl Forest {
 
     /// Puts a node into a new tree node under that of another node, or among the roots, which takes
     /// over the children there from number `from` on up to but not including number `to`. The node
-    /// is below 24 and not there, the other is there, `from` is at most `to`, and `to` at most the
-    /// number of children. Nodes at or under the children that are taken go one down, and those to
-    /// the right come closer.
+    /// is below [`NODE_LIMIT`] and not there, the other is there, `from` is at most `to`, and `to` at
+    /// most the number of children. Nodes at or under the children that are taken go one down, and
+    /// those to the right come closer.
     pub fn insert(&mut self, node: u8, under: Option<u8>, from: u8, to: u8)
         requires { CanMake (forest_of self.old) (record { node = node; step = Step.Insert under from to }) }
         ensures made { self.new ≡ self.old ++ record { node = node; step = Step.Insert under from to } ∷ [] }

@@ -40,6 +40,9 @@ pub mod laws;
 
 pub use forest::Forest;
 
+/// The most description nodes of a forest, and so of a description and of a tree.
+pub const NODE_LIMIT: usize = 24;
+
 /// How the tree nodes of two nodes stand to each other.
 #[derive(Clone, Copy, Debug, PartialEq, Eq)]
 pub enum Relation {
@@ -69,7 +72,7 @@ pub enum Step {
 /// A node and how it was added.
 #[derive(Clone, Copy, Debug, PartialEq, Eq)]
 pub struct Made {
-    /// The node, a number below 24.
+    /// The node, a number below [`NODE_LIMIT`].
     pub node: u8,
     /// Its step.
     pub step: Step,

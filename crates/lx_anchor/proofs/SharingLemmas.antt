@@ -15,8 +15,7 @@ use Rattle.gr_terms.specs.declared.Assertion.TheVariants.{Equate}
 use Rattle.gr_terms.specs.declared.Sym.{Sym}
 use Rattle.gr_terms.specs.declared.Term.{Term}
 use Rattle.gr_terms.proofs.BagLemmas.{IsListed-value}
-use Rattle.gr_store.specs.Contents.{Contents, Grows, IsMade, accepting, mark_of}
-use Rattle.gr_store.specs.declared.room.Mark.{Mark}
+use Rattle.gr_store.specs.Contents.{Contents, Grows, IsMade, accepting}
 use Rattle.gr_feats.specs.Loading.{counted_from}
 use Rattle.gr_feats.proofs.LoadLemmas.{bag_counted, first_items}
 use Rattle.td_tree.specs.Trees.{BagPairs}
@@ -193,8 +192,8 @@ module _ (t : Tree) (e : Entry) (first anchor : ℕ) (old : Contents) (room : Ha
         })
 
 -- what is made in a store has a number that fits
-pub made-fits : (old : Contents) (m : Mark) (x : Term) → m ≡ mark_of old → m.vars < 2 ^ 32 → IsMade old.vars x → IsMade 4294967295 x
-made-fits old m x is fits h = let vars : m.vars ≡ old.vars = ap (λ (n : Mark). n.vars) is in term-grows old.vars 4294967295 x (omega arith) h
+pub made-fits : (old : Contents) (x : Term) → old.vars < 2 ^ 32 → IsMade old.vars x → IsMade 4294967295 x
+made-fits old x fits h = term-grows old.vars 4294967295 x (omega arith) h
 
 -- the first outcomes of one value
 pub value-found : (bag : BagPairs) (attr : Sym) (x y : Term) (old new : Contents) (answer : Bool) → IsListed bag → IsAmong bag (attr, x) → 0 < old.spare.assertions

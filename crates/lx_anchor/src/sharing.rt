@@ -49,7 +49,7 @@ fn share(store: &mut Store, bag: &Bag, added: &Bag, first: u32) -> bool
     ensures grows { Grows store.old store.new }
 {
     // Its numbers fit, so none that is counted from the first one wraps.
-    let _made = store.mark();
+    store.agrees();
     'pairs: for place in 0..added.len() {
         let pair = added.at(place);
         if !share_value(store, bag, pair.0, counted(first, pair.1)) {

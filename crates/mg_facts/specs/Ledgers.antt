@@ -1,5 +1,5 @@
 -- What a ledger is for its callers, and the room of its store.
-use Rattle.std.specs.Prelude.{◌≡◌, ℕ, ◌+◌, ◌-◌, ◌<◌, ◌≤◌, List, length, take}
+use Rattle.std.specs.Prelude.{◌≡◌, ℕ, ◌+◌, ◌-◌, ◌^◌, ◌<◌, ◌≤◌, List, length, take}
 use Rattle.gr_terms.specs.declared.Assertion.{Assertion}
 use Rattle.gr_store.specs.declared.room.Room.{Room}
 use Rattle.gr_store.specs.declared.room.Mark.{Mark}
@@ -48,6 +48,11 @@ filled room vars slots list = record {
     assertions = room.assertions - length list;
   };
 }
+
+-- how many variables and slots there are fits 32 bits each
+pub record Fits (k : Kept) : Type 0 where
+  pub vars : k.vars < 2 ^ 32
+  pub slots : k.slots < 2 ^ 32
 
 abbrev pub kept_mark : Kept → Mark
 kept_mark k = record { vars = k.vars; slots = k.slots; entries = entry_count k.accepted; assertions = length k.accepted }

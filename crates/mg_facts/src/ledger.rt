@@ -4,7 +4,7 @@ ghost use Rattle.std.specs.Bool.{OnTrue, OnFalse};
 ghost use Rattle.gr_terms.specs.Networks.{Agrees};
 ghost use Rattle.gr_terms.specs.Views.{network_of};
 ghost use Rattle.gr_store.specs.Contents.{Mentions, MentionsAll, accepting, entry_count, mark_of};
-ghost use Rattle.mg_facts.specs.Ledgers.{kept_of, HasTotal, HasSpare, Holds, filled, kept_mark, IsMarked, kept_part};
+ghost use Rattle.mg_facts.specs.Ledgers.{kept_of, Fits, HasTotal, HasSpare, Holds, filled, kept_mark, IsMarked, kept_part};
 
 use gr_base::Memory;
 use gr_store::{Mark, Room, Store};
@@ -124,6 +124,15 @@ impl Ledger {
         ensures agrees { Agrees (network_of self.now.accepted) }
     {
         self.store.mark()
+    }
+
+    /// The accepted assertions agree, and the numbers of variables and slots fit. The call does
+    /// nothing.
+    pub fn agrees(&self)
+        ensures agrees { Agrees (network_of self.now.accepted) }
+        ensures fits { Fits self.now }
+    {
+        self.store.agrees();
     }
 
     /// Goes back to a mark.

@@ -79,7 +79,7 @@ impl Stated {
         spare_variable(&mut self.classes, count)?;
         spare_variable(&mut self.network, count)?;
         spare_slots(&mut self.network, count)?;
-        let _ = self.network.mark();
+        self.network.agrees();
         let number = self.names.number(x)?;
         Ok(number as u32)
     }
@@ -145,7 +145,7 @@ impl Stated {
             return;
         }
         let past = self.past[count];
-        let _ = self.network.mark();
+        self.network.agrees();
         self.names.keep(past.names as usize);
         self.used = self.names.count();
         let vars = self.used as u32;
@@ -189,7 +189,7 @@ impl Stated {
         ensures count { result ≡ length self.now.names }
         ensures small { 3 * result + 1 < 2 ^ 32 }
     {
-        let _ = self.network.mark();
+        self.network.agrees();
         self.names.count() as u32
     }
 
@@ -202,7 +202,7 @@ impl Stated {
         if self.fed < self.facts.len() {
             return None;
         }
-        let _ = self.network.mark();
+        self.network.agrees();
         Some(self.network.list())
     }
 
@@ -359,7 +359,7 @@ fn make_one(network: &mut Ledger, x: u32, y: u32) -> Result<bool, Memory>
     ensures refused { IfOk result (λ b. OnFalse b (network.new ≡ network.old)) }
     ensures err { OnErr result (network.new ≡ network.old) }
 {
-    let _ = network.mark();
+    network.agrees();
     network.accept_all(&[
         Assertion::Equate(Term::Var(x), Term::Var(y)),
         Assertion::Link(own_slot(x), own_slot(y)),

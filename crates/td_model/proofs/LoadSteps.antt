@@ -11,7 +11,7 @@ use Rattle.gr_terms.specs.Networks.{Agrees}
 use Rattle.gr_terms.specs.Views.{network_of}
 use Rattle.gr_terms.proofs.ViewLemmas.{network_of-append}
 use Rattle.gr_terms.proofs.NetworkLemmas.{Agrees-part}
-use Rattle.gr_store.specs.Contents.{Contents, Grows, IsMade, accepting, entry_count, mark_of}
+use Rattle.gr_store.specs.Contents.{Contents, Fits, Grows, IsMade, accepting, entry_count, mark_of}
 use Rattle.gr_store.specs.declared.room.Mark.{Mark}
 use Rattle.gr_store.specs.declared.room.Room.{Room}
 use Rattle.gr_store.specs.Contents as store
@@ -248,11 +248,11 @@ module _ (old : Contents) (d : Description) where
 pub counted_is : (old : Contents) (m : Mark) (a r : Assertion) → m ≡ mark_of old → r ≡ counted_assertion m.vars m.slots a → r ≡ counted_assertion old.vars old.slots a
 counted_is old m a r e h = h ∙ ap (λ (n : Mark). counted_assertion n.vars n.slots a) e
 
-pub counted_fits : (old now : Contents) (d : Description) (place : ℕ) (a : Assertion) (m made : Mark) → IsNumbered d → slice_get d.network place ≡ Some a → m ≡ mark_of old → made ≡ mark_of now
-    → now.vars ≡ old.vars + d.vars → now.slots ≡ old.slots + d.slots → made.vars < 2 ^ 32 → made.slots < 2 ^ 32 → store.Mentions 4294967295 4294967296 (counted_assertion m.vars m.slots a)
-counted_fits old now d place a m made numbered at e f vars slots low small =
-    let made_vars : made.vars ≡ now.vars = ap (λ (n : Mark). n.vars) f in
-    let made_slots : made.slots ≡ now.slots = ap (λ (n : Mark). n.slots) f in
+pub counted_fits : (old now : Contents) (d : Description) (place : ℕ) (a : Assertion) (m : Mark) → IsNumbered d → slice_get d.network place ≡ Some a → m ≡ mark_of old
+    → now.vars ≡ old.vars + d.vars → now.slots ≡ old.slots + d.slots → Fits now → store.Mentions 4294967295 4294967296 (counted_assertion m.vars m.slots a)
+counted_fits old now d place a m numbered at e vars slots fits =
+    let low : now.vars < 2 ^ 32 = fits.vars in
+    let small : now.slots < 2 ^ 32 = fits.slots in
     subst (λ (n : Mark). store.Mentions 4294967295 4294967296 (counted_assertion n.vars n.slots a)) (sym e)
     (counted_mentions old.vars old.slots d.vars d.slots 4294967295 4294967296 a (omega arith) (omega arith) (Each-at (Mentions d.vars d.slots) d.network a numbered.network (IsAmong-slice_get d.network place a at)))
 

@@ -109,7 +109,7 @@ pub fn add_description(store: &mut Store, d: &Description) -> bool
     make_variables(store, d.vars);
     make_slots(store, d.slots);
     // Its numbers fit, so none that is counted from the first ones wraps.
-    let _made = store.mark();
+    store.agrees();
     'network: for place in 0..d.network.len() {
         let assertion = counted(before.vars, before.slots, *d.network.at(place));
         if !accept(store, assertion) {

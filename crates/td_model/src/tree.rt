@@ -86,7 +86,7 @@ pub fn tree_of(
     ensures { IfOk result (IsModelTree (description_of d.now) (forest_of forest.now)) }
 {
     // The store's assertions agree, so each attribute has one value.
-    let _agrees = store.mark();
+    store.agrees();
     Ok(Tree {
         nodes: nodes_of(alloc, d, attributes, forest, store)?,
         iface: bag_of(alloc, store, d.iface, attributes)?,

@@ -1,4 +1,4 @@
-use Rattle.std.proofs.Common.{rules, subst, sym}
+use Rattle.std.proofs.Common.{subst, sym}
 use Rattle.gr_terms.specs.declared.Sym.{Sym}
 use Rattle.gr_terms.specs.declared.Term.{Term}
 use Rattle.gr_store.specs.Contents.{IsMade}
@@ -11,7 +11,7 @@ use Rattle.lx_anchor.proofs.sharing.share.Goals as goal
 
 pub counted-requires : goal.counted-requires
 counted-requires c =
-    made-fits c.args.store.now c.mark-made.result (counted_from c.args.first c.at-pair.result.now.1) c.mark-made.ensures.numbers (search rules)
+    made-fits c.args.store.now (counted_from c.args.first c.at-pair.result.now.1) c.agrees.ensures.fits.vars
     (mapped-at (λ (p : Sym × Term). (p.0, counted_from c.args.first p.1)) (λ (p : Sym × Term). IsMade c.args.store.now.vars p.1) c.args.added.now c.pairs.place c.at-pair.result.now c.requires.added_made c.at-pair.ensures.pair)
 
 pub share_value-requires-clause-bag_made : goal.share_value-requires-clause-bag_made

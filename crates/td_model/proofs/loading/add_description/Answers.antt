@@ -1,4 +1,4 @@
-use Rattle.std.proofs.Common.{rules, ◌+◌, ◌-◌, ◌∙◌, ap, refl, sym, subst}
+use Rattle.std.proofs.Common.{◌+◌, ◌-◌, ◌∙◌, ap, refl, sym, subst}
 use Rattle.std.proofs.lemmas.Bool.{false≢true}
 use Rattle.gr_store.specs.Contents.{Contents, Mentions}
 use Rattle.gr_store.proofs.Growth.{Grows-trans}
@@ -14,10 +14,10 @@ network-init c =
 
 pub counted-assertion-requires : goal.counted-assertion-requires
 counted-assertion-requires c =
-    counted_fits c.args.store.now c.make_slots.new.store c.args.d.now c.network.place c.at.result.now c.mark-before.result c.mark-made.result c.requires.numbered c.at.ensures c.mark-before.ensures.numbers c.mark-made.ensures.numbers
+    counted_fits c.args.store.now c.make_slots.new.store c.args.d.now c.network.place c.at.result.now c.mark-before.result c.requires.numbered c.at.ensures c.mark-before.ensures.numbers
     (ap (λ (s : Contents). s.vars) c.make_slots.ensures.made ∙ ap (λ (s : Contents). s.vars) c.make_variables.ensures.made)
     (ap (λ (s : Contents). s.slots) c.make_slots.ensures.made ∙ ap (λ (s : Contents). s.slots + c.args.d.now.slots) c.make_variables.ensures.made)
-    (search rules) (search rules)
+    c.agrees.ensures.fits
 
 pub accept-requires-clause-made : goal.accept-requires-clause-made
 accept-requires-clause-made c =

@@ -1,6 +1,5 @@
-use Rattle.std.proofs.Common.{rules, ◌≡◌, ◌+◌, ◌*◌, ◌<◌, ◌≤◌, Some, slice_get, length, take, refl, inl, inr, ap, ◌∙◌, arith}
+use Rattle.std.proofs.Common.{rules, ◌≡◌, ◌+◌, ◌*◌, ◌^◌, ◌<◌, ◌≤◌, Some, slice_get, length, take, refl, inl, inr, ap, ◌∙◌, arith}
 use Rattle.std.proofs.lemmas.Option.{slice_get_read}
-use Rattle.gr_store.specs.declared.room.Mark.{Mark}
 use Rattle.mg_facts.proofs.StatedLemmas.{few, network_marked, classes_marked, IsStated-first, reads_first}
 use Rattle.mg_facts.proofs.stated.Stated.keep.Goals as goal
 
@@ -13,7 +12,7 @@ overflow_mul-vars c =
     in
     let is_n : c.count-self-inside.result ≡ length (take c.index-past.result.now.names c.self.inside.names) = c.count-self-inside.ensures.count ∙ ap length c.keep.ensures in
     let f : c.count-self-inside.result ≤ length c.self.inside.names = few c.self.inside.names c.self.inside.used c.self.inside.facts.items c.self.inside.past.items c.self.inside.network c.self.inside.classes c.self.inside.fed c.self.invariant c.args.count lt c.index-past.result.now at c.count-self-inside.result is_n in
-    let d : c.mark.result.slots ≡ c.self.inside.network.slots = ap (λ (m : Mark). m.slots) c.mark.ensures.mark in
+    let small : c.self.inside.network.slots < 2 ^ 32 = c.agrees.ensures.fits.slots in
     omega (arith, c.self.invariant.slots)
 
 pub overflow_add-vars : goal.overflow_add-vars
@@ -25,7 +24,7 @@ overflow_add-vars c =
     in
     let is_n : c.count-self-inside.result ≡ length (take c.index-past.result.now.names c.self.inside.names) = c.count-self-inside.ensures.count ∙ ap length c.keep.ensures in
     let f : c.count-self-inside.result ≤ length c.self.inside.names = few c.self.inside.names c.self.inside.used c.self.inside.facts.items c.self.inside.past.items c.self.inside.network c.self.inside.classes c.self.inside.fed c.self.invariant c.args.count lt c.index-past.result.now at c.count-self-inside.result is_n in
-    let d : c.mark.result.slots ≡ c.self.inside.network.slots = ap (λ (m : Mark). m.slots) c.mark.ensures.mark in
+    let small : c.self.inside.network.slots < 2 ^ 32 = c.agrees.ensures.fits.slots in
     omega (arith, c.self.invariant.slots)
 
 pub undo-requires : goal.undo-requires

@@ -1,6 +1,5 @@
-use Rattle.std.proofs.Common.{◌≡◌, ◌+◌, ◌*◌, ◌<◌, ◌≤◌, length, refl, ap, sym, subst, arith}
+use Rattle.std.proofs.Common.{◌≡◌, ◌+◌, ◌*◌, ◌^◌, ◌<◌, ◌≤◌, length, refl, ap, sym, subst, arith}
 use Rattle.std.proofs.lemmas.Option.{slice_get_within}
-use Rattle.gr_store.specs.declared.room.Mark.{Mark}
 use Rattle.mg_facts.specs.State.{IsStated}
 use Rattle.mg_facts.proofs.StatedLemmas.{IsStated-room, IsStated-named, HasMoreRoom-refl, HasMoreRoom-trans, Keeps-still, Keeps-numbered, number_is_fresh, GoesOn-count}
 use Rattle.mg_facts.proofs.stated.Stated.number.Goals as goal
@@ -52,14 +51,14 @@ pub overflow_cast-result : goal.overflow_cast-result
 overflow_cast-result c =
     let a : c.in_ok-number.number < length c.number.new.self = slice_get_within _ _ _ c.in_ok-number.ensures.named in
     let b : length c.number.new.self ≤ length c.self.inside.names + 1 = GoesOn-count _ _ _ c.in_ok-number.ensures.grows in
-    let d : c.mark.result.slots ≡ c.spare_slots.new.network.slots = ap (λ (m : Mark). m.slots) c.mark.ensures.mark in
+    let small : c.spare_slots.new.network.slots < 2 ^ 32 = c.agrees.ensures.fits.slots in
     omega (arith, c.in_ok-spare_slots.ensures.enough, c.count-count.ensures.count)
 
 pub returns-clause-small : goal.returns-clause-small
 returns-clause-small c =
     let a : c.in_ok-number.number < length c.number.new.self = slice_get_within _ _ _ c.in_ok-number.ensures.named in
     let b : length c.number.new.self ≤ length c.self.inside.names + 1 = GoesOn-count _ _ _ c.in_ok-number.ensures.grows in
-    let d : c.mark.result.slots ≡ c.spare_slots.new.network.slots = ap (λ (m : Mark). m.slots) c.mark.ensures.mark in
+    let small : c.spare_slots.new.network.slots < 2 ^ 32 = c.agrees.ensures.fits.slots in
     omega (arith, c.in_ok-spare_slots.ensures.enough, c.count-count.ensures.count)
 
 pub returns-clause-keeps : goal.returns-clause-keeps

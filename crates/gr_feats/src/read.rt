@@ -5,6 +5,7 @@ ghost use Rattle.gr_tokens.specs.Answers.{AreTokens};
 ghost use Rattle.gr_reader.specs.Places.{place_of_token as token_place};
 ghost use Rattle.gr_feats.specs.Answers.{IsBagAnswer, IsLiteralsAnswer, place_of_left};
 ghost use Rattle.gr_feats.specs.Numberings.{GoesOnFrom};
+ghost use Rattle.gr_text.specs.Limits.{IsShort};
 
 use crate::bags::bag;
 use crate::literals::closed_literals;
@@ -19,7 +20,7 @@ use std::alloc::Global;
 
 /// The place where so many tokens are left.
 fn place_where_left(bytes: &[u8], tokens: &[Token], left: Option<usize>) -> Option<Place>
-    requires { length bytes.now ≤ 1048576 }
+    requires { IsShort bytes.now }
     ensures { result ≡ place_of_left bytes.now tokens.now left }
 {
     match left {
@@ -30,7 +31,7 @@ fn place_where_left(bytes: &[u8], tokens: &[Token], left: Option<usize>) -> Opti
 
 /// The refusal for a stop before the token with this number.
 fn refusal(bytes: &[u8], tokens: &[Token], number: usize, stop: Stop) -> ReadRefusal
-    requires { length bytes.now ≤ 1048576 }
+    requires { IsShort bytes.now }
     ensures syntax { stop ≡ Stop.Syntax → result ≡ ReadRefusal.Syntax (token_place bytes.now tokens.now number) }
     ensures memory { stop ≡ Stop.Memory → result ≡ ReadRefusal.Memory }
 {
@@ -60,7 +61,7 @@ pub fn read_bag(
     symbols: &mut Symbols,
     names: &mut Names,
 ) -> Result<(Bag, usize, Option<Place>), ReadRefusal>
-    requires bytes { length bytes.now ≤ 1048576 }
+    requires bytes { IsShort bytes.now }
     requires tokens { AreTokens bytes.now tokens.now }
     requires at { at ≤ length tokens.now }
     ensures answer { IsBagAnswer bytes.now tokens.now at symbols.old symbols.new names.old names.new result }
@@ -103,7 +104,7 @@ pub fn read_literals(
     symbols: &mut Symbols,
     names: &mut Names,
 ) -> Result<(Literals, usize), ReadRefusal>
-    requires bytes { length bytes.now ≤ 1048576 }
+    requires bytes { IsShort bytes.now }
     requires tokens { AreTokens bytes.now tokens.now }
     requires at { at ≤ length tokens.now }
     ensures answer { IsLiteralsAnswer bytes.now tokens.now at symbols.old symbols.new names.old names.new result }

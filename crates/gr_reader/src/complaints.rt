@@ -1,7 +1,8 @@
 //! Complaints: what is wrong with a text that can be read, in the order of the text.
-ghost use Rattle.std.specs.Prelude.{◌≡◌, ◌≤◌, ◌-◌, length};
+ghost use Rattle.std.specs.Prelude.{◌≡◌, ◌-◌, length};
 ghost use Rattle.gr_reader.specs.Complaints.{noted, refusal_at};
 ghost use Rattle.gr_reader.specs.Places.{place_of_token as token_place};
+ghost use Rattle.gr_text.specs.Limits.{IsShort};
 
 use crate::places::place_of_token;
 use gr_text::Place;
@@ -56,7 +57,7 @@ impl Fault {
 impl Complaint {
     /// The refusal for a complaint of these tokens, at the place of its token.
     pub fn refusal(self, bytes: &[u8], tokens: &[Token]) -> ReadRefusal
-        requires { length bytes.now ≤ 1048576 }
+        requires { IsShort bytes.now }
         ensures { result ≡ refusal_at self.fault (token_place bytes.now tokens.now (length tokens.now - self.left)) }
     {
         let place = place_of_token(bytes, tokens, tokens.len().saturating_sub(self.left));

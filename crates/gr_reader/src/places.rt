@@ -1,6 +1,7 @@
 //! Places by the numbers of tokens, for what is refused at a token or at the end.
-ghost use Rattle.std.specs.Prelude.{◌≡◌, ◌≤◌, length};
+ghost use Rattle.std.specs.Prelude.{◌≡◌};
 ghost use Rattle.gr_reader.specs.Places.{place_of_token};
+ghost use Rattle.gr_text.specs.Limits.{IsShort};
 ghost use Rattle.gr_text.specs.Places.{place_after};
 
 use gr_text::{Cursor, Place};
@@ -8,7 +9,7 @@ use gr_tokens::{ReadRefusal, Token};
 
 /// The place behind the last byte.
 pub fn end_place(bytes: &[u8]) -> Place
-    requires { length bytes.now ≤ 1048576 }
+    requires { IsShort bytes.now }
     ensures { result ≡ place_after bytes.now }
 {
     let mut cursor = Cursor::new(bytes);
@@ -19,7 +20,7 @@ pub fn end_place(bytes: &[u8]) -> Place
 /// The place of the token with this number, counted from 0, or that of the end of the bytes where
 /// there is no such token.
 pub fn place_of_token(bytes: &[u8], tokens: &[Token], number: usize) -> Place
-    requires { length bytes.now ≤ 1048576 }
+    requires { IsShort bytes.now }
     ensures { result ≡ place_of_token bytes.now tokens.now number }
 {
     match tokens.get(number) {
@@ -31,7 +32,7 @@ pub fn place_of_token(bytes: &[u8], tokens: &[Token], number: usize) -> Place
 /// The refusal of a text that breaks off before the token with this number, counted from 0, or at
 /// the end of the bytes where there is no such token.
 pub fn breaks_off(bytes: &[u8], tokens: &[Token], number: usize) -> ReadRefusal
-    requires { length bytes.now ≤ 1048576 }
+    requires { IsShort bytes.now }
     ensures { result ≡ ReadRefusal.Syntax (place_of_token bytes.now tokens.now number) }
 {
     ReadRefusal::Syntax(place_of_token(bytes, tokens, number))

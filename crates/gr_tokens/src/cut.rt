@@ -4,6 +4,7 @@ ghost use Rattle.std.specs.Str.{IsUtf8};
 ghost use Rattle.gr_tokens.specs.Answers.{AreTokens, IsRefused};
 ghost use Rattle.gr_tokens.specs.Fronts.{IsHere, Passes, Skips};
 ghost use Rattle.gr_tokens.specs.Tokens.{HasNoGap, HasNoToken, is_blank as is_blank_byte};
+ghost use Rattle.gr_text.specs.Limits.{IsShort, byte_limit};
 
 use crate::fronts::{is_blank, line_len, next_token};
 use crate::{ReadRefusal, Token};
@@ -19,7 +20,7 @@ pub struct Here {
 
 /// Behind this many bytes, of which none is LF.
 fn along(here: Here, len: usize) -> Here
-    requires at { here.at + len ≤ 1048576 }
+    requires at { here.at + len ≤ byte_limit }
     requires column { here.place.column ≤ 1048577 }
     ensures at { result.at ≡ here.at + len }
     ensures line { result.place.line ≡ here.place.line }
@@ -104,7 +105,7 @@ fn token_at(bytes: &[u8], here: Here) -> Option<(Token, Here)>
 
 /// The tokens of a text that is UTF-8.
 pub fn cut(alloc: Global, bytes: &[u8]) -> Result<Vec<Token>, ReadRefusal>
-    requires length { length bytes.now ≤ 1048576 }
+    requires length { IsShort bytes.now }
     requires utf8 { IsUtf8 bytes.now }
     ensures ok { IfOk result (λ found. AreTokens bytes.now found.items) }
     ensures err { IfErr result (λ refusal. (refusal ≡ ReadRefusal.Memory) ⊎ IsRefused bytes.now refusal) }

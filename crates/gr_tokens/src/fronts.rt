@@ -1,6 +1,7 @@
 //! What some bytes begin with: a function for each class of tokens, and for blanks and comments.
 ghost use Rattle.std.specs.Prelude.{◌≡◌, ◌≢◌, ◌↔◌, ◌+◌, ◌<◌, ◌≤◌, [], ◌∷◌, IsTrue, false, length, take, drop, slice_index, MatchOption};
 ghost use Rattle.gr_base.specs.Lists.{Each};
+ghost use Rattle.gr_text.specs.Limits.{IsShort, byte_limit};
 ghost use Rattle.gr_text.specs.Words.{begins_with_word_byte, is_word_rest, IsStringByte};
 ghost use Rattle.gr_tokens.specs.Fronts.{BeginsWith, EndsInside, EndsWord, is_lone_sign, repeat_width, sign_width};
 ghost use Rattle.gr_tokens.specs.Tokens.{EndsLine, HasNoToken, is_blank as is_blank_byte};
@@ -106,7 +107,7 @@ fn inside_len(bytes: &[u8]) -> usize
 
 /// The string that begins with `"` and these bytes.
 fn string(behind: &[u8]) -> Option<(Kind, usize)>
-    requires { length behind.now < 1048576 }
+    requires { length behind.now < byte_limit }
     ensures { MatchOption result (HasNoToken (34 ∷ behind.now)) (λ r. BeginsWith (34 ∷ behind.now) r.0 r.1) }
 {
     let len = inside_len(behind);
@@ -185,7 +186,7 @@ fn sign(bytes: &[u8]) -> Option<(Kind, usize)>
 /// The kind and the length of the token that the bytes begin with, `None` where there is none
 /// that isn't too long.
 pub fn next_token(bytes: &[u8]) -> Option<(Kind, usize)>
-    requires { length bytes.now ≤ 1048576 }
+    requires { IsShort bytes.now }
     ensures { MatchOption result (HasNoToken bytes.now) (λ r. BeginsWith bytes.now r.0 r.1) }
 {
     let Some((first, behind)) = bytes.split_first() else {

@@ -9,8 +9,9 @@ mod cut;
 mod fronts;
 pub mod laws;
 
-ghost use Rattle.std.specs.Prelude.{◌≡◌, ◌≤◌, ◌⊎◌, length, IfOk, IfErr};
+ghost use Rattle.std.specs.Prelude.{◌≡◌, ◌⊎◌, IfOk, IfErr};
 ghost use Rattle.gr_tokens.specs.Answers.{AreTokens, IsRefused};
+ghost use Rattle.gr_text.specs.Limits.{IsShort};
 
 use crate::cut::cut;
 use gr_base::Memory;
@@ -91,7 +92,7 @@ impl From<Memory> for ReadRefusal {
 /// string without its end, or of a token with a text of more than 255 bytes, whichever stands
 /// first. Want of memory may stand in place of any answer.
 pub fn tokens(alloc: Global, bytes: &[u8]) -> Result<Vec<Token>, ReadRefusal>
-    requires { length bytes.now ≤ 1048576 }
+    requires { IsShort bytes.now }
     ensures ok { IfOk result (λ found. AreTokens bytes.now found.items) }
     ensures err { IfErr result (λ refusal. (refusal ≡ ReadRefusal.Memory) ⊎ IsRefused bytes.now refusal) }
 {

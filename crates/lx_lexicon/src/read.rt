@@ -12,6 +12,7 @@ ghost use Rattle.lx_lexicon.specs.Answers.{IsTokensAnswer, IsLexiconAnswer, judg
 ghost use Rattle.lx_lexicon.specs.Complaints.{entry_bad, lexicon_bad};
 ghost use Rattle.lx_lexicon.specs.Entries.{IsEntry, AreEntries};
 ghost use Rattle.lx_lexicon.specs.Grammars.{entry_text, entry_of, lexicon_text, lexicon_of};
+ghost use Rattle.gr_text.specs.Limits.{IsShort};
 
 use crate::entry::{Entry, Lexicon};
 use crate::notes::accepted;
@@ -69,7 +70,7 @@ fn without_complaint(
     lexicon: Lexicon,
     complaints: &Complaints,
 ) -> Result<Lexicon, ReadRefusal>
-    requires { length bytes.now ≤ 1048576 }
+    requires { IsShort bytes.now }
     ensures { result ≡ judged bytes.now tokens.now complaints.now lexicon }
 {
     match complaints.first() {
@@ -85,7 +86,7 @@ fn read_tokens(
     tokens: &[Token],
     symbols: &mut Symbols,
 ) -> Result<Lexicon, ReadRefusal>
-    requires bytes { length bytes.now ≤ 1048576 }
+    requires bytes { IsShort bytes.now }
     requires tokens { AreTokens bytes.now tokens.now }
     ensures answer { IsTokensAnswer bytes.now tokens.now symbols.new result }
     ensures table { OnOk result (PutsNames lexicon_text symbols.old symbols.new (lexemes bytes.now tokens.now) []) }
@@ -125,7 +126,7 @@ pub fn read_lexicon(
     bytes: &[u8],
     symbols: &mut Symbols,
 ) -> Result<Lexicon, ReadRefusal>
-    requires { length bytes.now ≤ 1048576 }
+    requires { IsShort bytes.now }
     ensures answer { IsLexiconAnswer bytes.now symbols.old symbols.new result }
     ensures grows { Grows symbols.old symbols.new }
     ensures few { length symbols.new ≤ length symbols.old + length bytes.now }

@@ -15,6 +15,7 @@ ghost use Rattle.mg_reader.specs.Kinds.{turn, word_kind};
 ghost use Rattle.mg_reader.specs.Reading.{accepted};
 ghost use Rattle.mg_reader.specs.Lexemes.{EachIs, IsLexeme, kind_of, HasName};
 ghost use Rattle.mg_reader.specs.Tables.{AreNumbered, IsBehind, IsNamed, IsTable};
+ghost use Rattle.gr_text.specs.Limits.{IsShort};
 
 use crate::cursor::{Cursor, Stop};
 use crate::lexeme::{Kind, Lexeme};
@@ -210,7 +211,7 @@ fn accepted(whole: (Metagrammar, Option<Complaint>)) -> Result<Metagrammar, Read
 
 /// The place of the lexeme with this number, counted from 0, or that of the end of the bytes.
 fn place_at(bytes: &[u8], lexemes: &[Lexeme], number: usize) -> Place
-    requires { length bytes.now ≤ 1048576 }
+    requires { IsShort bytes.now }
     ensures { result ≡ place_of bytes.now (drop number lexemes.now) }
 {
     match lexemes.get(number) {
@@ -238,7 +239,7 @@ pub fn read_metagrammar(
     bytes: &[u8],
     symbols: &mut Symbols,
 ) -> Result<Metagrammar, ReadRefusal>
-    requires { length bytes.now ≤ 1048576 }
+    requires { IsShort bytes.now }
     ensures ok { IfOk result (λ m. IsMetagrammar bytes.now symbols.new m) }
     ensures err { IfErr result (λ refusal. (refusal ≡ ReadRefusal.Memory) ⊎ IsRefusal bytes.now symbols.new refusal) }
     ensures table { OnOk result (IsTable bytes.now symbols.old symbols.new) }

@@ -8,6 +8,7 @@ ghost use Rattle.gr_reader.specs.Classes.{test, variable};
 ghost use Rattle.gr_reader.specs.Lexemes.{lexeme_of, lexemes};
 ghost use Rattle.sm_input.specs.Answers.{IsInputsAnswer, IsTokensAnswer, PutsTokens, judged, noted_at};
 ghost use Rattle.sm_input.specs.Complaints.{variable_left};
+ghost use Rattle.gr_text.specs.Limits.{IsShort};
 
 use crate::input::Input;
 use crate::inputs::inputs;
@@ -57,7 +58,7 @@ fn without_complaint(
     inputs: Vec<Input>,
     complaints: &Complaints,
 ) -> Result<Vec<Input>, ReadRefusal>
-    requires { length bytes.now ≤ 1048576 }
+    requires { IsShort bytes.now }
     ensures { result ≡ judged bytes.now tokens.now complaints.now inputs }
 {
     match complaints.first() {
@@ -80,7 +81,7 @@ fn read_tokens(
     tokens: &[Token],
     symbols: &mut Symbols,
 ) -> Result<Vec<Input>, ReadRefusal>
-    requires bytes { length bytes.now ≤ 1048576 }
+    requires bytes { IsShort bytes.now }
     requires tokens { AreTokens bytes.now tokens.now }
     ensures answer { IsTokensAnswer bytes.now tokens.now symbols.new result }
     ensures table { OnOk result (PutsTokens bytes.now tokens.now symbols.old symbols.new) }
@@ -126,7 +127,7 @@ pub fn read_inputs(
     bytes: &[u8],
     symbols: &mut Symbols,
 ) -> Result<Vec<Input>, ReadRefusal>
-    requires { length bytes.now ≤ 1048576 }
+    requires { IsShort bytes.now }
     ensures answer { IsInputsAnswer bytes.now symbols.old symbols.new result }
     ensures grows { Grows symbols.old symbols.new }
     ensures few { length symbols.new ≤ length symbols.old + length bytes.now }

@@ -1,5 +1,5 @@
 -- What a tree that was read says of the text.
-use Rattle.std.specs.Prelude.{◌≡◌, ℕ, suc, ◌+◌, ◌≤◌, List, [], ◌∷◌, length, codes, Option, Some, None, refl}
+use Rattle.std.specs.Prelude.{◌≡◌, ℕ, suc, ◌+◌, List, [], ◌∷◌, length, codes, Option, Some, None, refl}
 use Rattle.std.proofs.Common.{inl, inr, sym, ◌∙◌, subst}
 use Rattle.gr_base.specs.Lists.{Each, NoneTwice}
 use Rattle.gr_base.specs.Forests.{Forest, empty, tree, AreAlike, labels, size}
@@ -23,6 +23,7 @@ use Rattle.tg_reader.proofs.Closing.{HoldsNode, closing, nodes_hold}
 use Rattle.tg_reader.proofs.Held.{Holds}
 use Rattle.tg_reader.proofs.Readable.{IsMarkText, IsWell, Readable, StandsWell, readable}
 use Rattle.tg_reader.proofs.Tables.{first_is, first_names, only_number}
+use Rattle.gr_text.specs.Limits.{IsShort}
 
 -- ---- what is known of a tree
 
@@ -83,7 +84,7 @@ module _ (texts : List (List ℕ)) where
 
 -- ---- a tree that stands for the form of one that can be written
 
-module _ (texts : List (List ℕ)) (once : NoneTwice texts) (first : Grows first_texts texts) (x : List ℕ) (is : IsTreeText x) (short : length x ≤ 1048576) where
+module _ (texts : List (List ℕ)) (once : NoneTwice texts) (first : Grows first_texts texts) (x : List ℕ) (is : IsTreeText x) (short : IsShort x) where
   abbrev text : ℕ → List ℕ
   text = text_in is.texts
 

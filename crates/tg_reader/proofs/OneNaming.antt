@@ -1,5 +1,5 @@
 -- The text of a tree has one list of names, by whatever tables and trees it is that of a tree.
-use Rattle.std.specs.Prelude.{◌≡◌, ℕ, ◌<◌, ◌≤◌, true, not, ◌==◌, List, [], ◌∷◌, ◌++◌, map, length, codes, refl}
+use Rattle.std.specs.Prelude.{◌≡◌, ℕ, ◌<◌, true, not, ◌==◌, List, [], ◌∷◌, ◌++◌, map, length, codes, refl}
 use Rattle.std.proofs.Common.{inl, inr, ap, ap₂, sym, ◌∙◌, subst, arith}
 use Rattle.std.proofs.lemmas.Bool.{cases_lt}
 use Rattle.std.proofs.lemmas.Bool.Decides.{nat_tests}
@@ -11,6 +11,7 @@ use Rattle.gr_symbols.specs.Numbers.{Grows, Names, first_texts, with_text, with_
 use Rattle.gr_symbols.proofs.NumberLemmas.{Grows-trans, IsAmong-Names, Names-IsAmong, Names-within, with_text-by, with_texts-grows, with_texts-once}
 use Rattle.gr_terms.specs.Canonical.{Decorated, Label, Literal, Node, Pairs, category, literal_terms, map_literal, named, numbered, properties}
 use Rattle.gr_terms.specs.Constants.{CAT}
+use Rattle.gr_text.specs.Limits.{IsShort}
 use Rattle.gr_text.specs.Words.{IsStringByte}
 use Rattle.td_canon.specs.CanonicalTexts.{text_in}
 use Rattle.td_canon.specs.TreeText.{decorated_text}
@@ -191,7 +192,7 @@ record HasForm (texts : List (List ℕ)) (once : NoneTwice texts) (x : List ℕ)
   spells : CanSpellForm (text_in texts) (λ a. a < length texts) (λ a b h k e. texts_apart texts a b once h k e) form
   names_are : form_names (text_in texts) form ≡ names
 
-has_form : (texts : List (List ℕ)) (once : NoneTwice texts) → Grows first_texts texts → (x : List ℕ) (is : IsTreeText x) → length x ≤ 1048576 → ((t : List ℕ) → IsAmong is.texts t → IsAmong texts t) → HasForm texts once x (names_in is)
+has_form : (texts : List (List ℕ)) (once : NoneTwice texts) → Grows first_texts texts → (x : List ℕ) (is : IsTreeText x) → IsShort x → ((t : List ℕ) → IsAmong is.texts t → IsAmong texts t) → HasForm texts once x (names_in is)
 has_form texts once first x is short there =
     let text : ℕ → List ℕ = text_in is.texts in
     let c : Decorated Pairs Label = is.has.spells.form in
@@ -215,7 +216,7 @@ has_form texts once first x is short there =
     ]
 
 -- two forms with one text over one table are one, and so are their names
-pub one_naming : (x : List ℕ) (is other : IsTreeText x) → length x ≤ 1048576 → names_in is ≡ names_in other
+pub one_naming : (x : List ℕ) (is other : IsTreeText x) → IsShort x → names_in is ≡ names_in other
 one_naming x is other short =
     let texts : List (List ℕ) = with_texts is.texts other.texts in
     let once : NoneTwice texts = with_texts-once is.texts other.texts is.table.once in
@@ -227,5 +228,5 @@ one_naming x is other short =
     sym a.names_are ∙ ap (form_names (text_in texts)) same ∙ b.names_are
 
 -- so the table behind a tree is one
-pub one_table : (x : List ℕ) (old new others : List (List ℕ)) → length x ≤ 1048576 → PutsTreeNames x old new → PutsTreeNames x old others → new ≡ others
+pub one_table : (x : List ℕ) (old new others : List (List ℕ)) → IsShort x → PutsTreeNames x old new → PutsTreeNames x old others → new ≡ others
 one_table x old new others short a b = a.1 ∙ ap (with_texts old) (one_naming x a.0 b.0 short) ∙ sym b.1

@@ -37,6 +37,7 @@ use Rattle.tg_reader.proofs.Closing.{IsOrderedForm, IsOrderedNode}
 use Rattle.tg_reader.proofs.Held.{properties_from}
 use Rattle.tg_reader.proofs.Tables.{first_is, first_names, only_number}
 use Rattle.tg_reader.proofs.WalkLengths.{walk_length}
+use Rattle.gr_text.specs.Limits.{IsShort}
 
 -- ---- forms in order
 
@@ -185,7 +186,7 @@ pub record Readable (old : List (List ℕ)) (x : List ℕ) (form : Decorated Pai
   pub ordered : IsOrderedForm (text_in old) form
   pub well : Each (IsWell (text_in old)) (labels form.nodes)
 
-pub readable : (old : List (List ℕ)) → IsTable old → (t : Tree) (x : List ℕ) → (has : HasText old t x) → IsWritableTree old t → length x ≤ 1048576 → Readable old x has.spells.form
+pub readable : (old : List (List ℕ)) → IsTable old → (t : Tree) (x : List ℕ) → (has : HasText old t x) → IsWritableTree old t → IsShort x → Readable old x has.spells.form
 readable old table t x has writable short =
     let f = has.nodes.forest in
     let d = decorated_of f t in

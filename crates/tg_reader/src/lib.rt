@@ -37,6 +37,7 @@ ghost use Rattle.gr_symbols.specs.Numbers.{Grows, first_texts};
 ghost use Rattle.td_canon.specs.CanonicalTexts.{HasText};
 ghost use Rattle.tg_reader.specs.Naming.{PutsTreeNames};
 ghost use Rattle.tg_reader.specs.Writable.{IsTreeText, IsWritableTree};
+ghost use Rattle.gr_text.specs.Limits.{IsShort};
 
 use crate::reader::{Reader, Stop};
 use crate::rules::all_obey;
@@ -64,7 +65,7 @@ fn has_first_texts(symbols: &Symbols)
 /// that can be written. Names are numbers of the table, which gets what the tree names, as far as it
 /// lacks it, in the order of the text. Where there is no tree the table only grows.
 pub fn read_tree(alloc: Global, text: &str, symbols: &mut Symbols) -> Result<Option<Tree>, Memory>
-    requires { length text.now ≤ 1048576 }
+    requires { IsShort text.now }
     ensures tree { IfOk result (λ found. IfSome found (λ t. HasText symbols.new t text.now)) }
     ensures writable { IfOk result (λ found. IfSome found (λ t. IsWritableTree symbols.new t)) }
     ensures table { IfOk result (λ found. IfSome found (λ _. PutsTreeNames text.now symbols.old symbols.new)) }

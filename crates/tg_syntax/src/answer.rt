@@ -1,5 +1,6 @@
 //! The syntax of a whole file of grammar text.
-ghost use Rattle.std.specs.Prelude.{◌≡◌, ◌≤◌, ◌-◌, List, ℕ, length, take, MatchOption};
+ghost use Rattle.std.specs.Prelude.{◌≡◌, ◌-◌, List, ℕ, length, take, MatchOption};
+ghost use Rattle.gr_text.specs.Limits.{IsShort};
 ghost use Rattle.gr_text.specs.Places.{place_after};
 ghost use Rattle.tg_syntax.specs.Answers.{BreaksAt, IsGrammarFile, IsSyntaxAnswer};
 
@@ -9,7 +10,7 @@ use gr_text::{Cursor, Place};
 
 /// The place in a text of at most 1,048,576 bytes where this many bytes are left.
 pub fn place_with(bytes: &[u8], left: usize) -> Place
-    requires { length bytes.now ≤ 1048576 }
+    requires { IsShort bytes.now }
     ensures { result ≡ place_after (take (length bytes.now - left) bytes.now) }
 {
     let mut cursor = Cursor::new(bytes);
@@ -53,7 +54,7 @@ fn stop_in(bytes: &[u8]) -> Option<usize>
 /// Whether the bytes are UTF-8, and whether they have another version, is not asked here; nor
 /// whether the text is the canonical one. It takes no memory.
 pub fn check_syntax(bytes: &[u8]) -> Result<(), Place>
-    requires { length bytes.now ≤ 1048576 }
+    requires { IsShort bytes.now }
     ensures { IsSyntaxAnswer bytes.now result }
 {
     match stop_in(bytes) {

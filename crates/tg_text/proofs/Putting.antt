@@ -1,5 +1,5 @@
 -- How the table of names grows with the trees and classes that are read.
-use Rattle.std.specs.Prelude.{◌≡◌, ℕ, suc, ◌≤◌, List, [], ◌∷◌, ◌++◌, length, Ok}
+use Rattle.std.specs.Prelude.{◌≡◌, ℕ, suc, List, [], ◌∷◌, ◌++◌, length, Ok}
 use Rattle.std.proofs.Common.{ap, sym, ◌∙◌, subst, arith, length-append}
 use Rattle.std.proofs.lemmas.List.{map-append}
 use Rattle.gr_base.specs.Lists.{Each, gathered}
@@ -23,6 +23,7 @@ use Rattle.tg_text.proofs.ClassRows.{written}
 use Rattle.tg_text.proofs.GrownTrees.{written_stays}
 use Rattle.tg_text.proofs.OneAnswer.{read_alike}
 use Rattle.tg_text.proofs.SizeLemmas.{class_size, file_size, first_line_size}
+use Rattle.gr_text.specs.Limits.{IsShort}
 
 -- ---- one more
 
@@ -66,17 +67,13 @@ module _ {V : Type 0} (R : V → List (List ℕ) → List (List ℕ) → Type 0)
       let first : a.0 ≡ b.0 = one v old a.0 b.0 can.0 a.1 b.1 in
       in_turn_one vs b.0 new others can.1 (subst (λ z. InTurn R vs z new) first a.2) b.2
 
--- a tree's text of at most 1,048,576 bytes
-abbrev IsShort : List ℕ → Type 0
-IsShort text = length text ≤ 1048576
-
-trees_short : (n : ℕ) (ts : List (List ℕ)) → length (tree_lines n ts) ≤ 1048576 → Each IsShort ts
+trees_short : (n : ℕ) (ts : List (List ℕ)) → IsShort (tree_lines n ts) → Each IsShort ts
 trees_short n [] short = tt
 trees_short n (t ∷ ts) short =
     let size = first_line_size n t ts in
     (omega (arith, short, size), trees_short (suc n) ts (omega (arith, short, size)))
 
-classes_short : (cs : List ClassText) → length (gathered class_text cs) ≤ 1048576 → Each (λ (c : ClassText). Each IsShort c.trees) cs
+classes_short : (cs : List ClassText) → IsShort (gathered class_text cs) → Each (λ (c : ClassText). Each IsShort c.trees) cs
 classes_short [] short = tt
 classes_short (c ∷ cs) short =
     let size = length-append (class_text c) (gathered class_text cs) in
@@ -85,8 +82,8 @@ classes_short (c ∷ cs) short =
 one_class : (c : ClassText) (old new others : List (List ℕ)) → Each IsShort c.trees → PutsClass c old new → PutsClass c old others → new ≡ others
 one_class c old new others short a b = in_turn_one PutsTreeNames IsShort one_tree_table c.trees (with_text old c.name) new others short a b
 
-pub one_table : (bytes : List ℕ) (old new others : List (List ℕ)) (x y : Classes) → length bytes ≤ 1048576 → IsTable old → IsGrammarAnswer bytes old new (Ok x) → IsGrammarAnswer bytes old others (Ok y) → new ≡ others
+pub one_table : (bytes : List ℕ) (old new others : List (List ℕ)) (x y : Classes) → IsShort bytes → IsTable old → IsGrammarAnswer bytes old new (Ok x) → IsGrammarAnswer bytes old others (Ok y) → new ≡ others
 one_table bytes old new others x y short table a b =
     let same : written new x.items ≡ written others y.items = read_alike bytes new others x.items y.items (new_table bytes old new x table a) (new_table bytes old others y table b) a.reading.2 b.reading.2 in
-    let size : length (gathered class_text (written new x.items)) ≤ 1048576 = omega (arith, short, ap (λ (z : List ℕ). length z) a.reading.2.written, file_size (written new x.items)) in
+    let size : IsShort (gathered class_text (written new x.items)) = omega (arith, short, ap (λ (z : List ℕ). length z) a.reading.2.written, file_size (written new x.items)) in
     in_turn_one PutsClass (λ (c : ClassText). Each IsShort c.trees) one_class (written new x.items) old new others (classes_short (written new x.items) size) a.table (subst (λ ws. PutsClasses ws old others) (sym same) b.table)

@@ -1,5 +1,5 @@
 //! Laws of reading grammar text.
-ghost use Rattle.std.specs.Prelude.{◌≡◌, ℕ, ◌<◌, ◌≤◌, ◌^◌, List, length, map, Result};
+ghost use Rattle.std.specs.Prelude.{◌≡◌, ℕ, ◌<◌, ◌^◌, List, length, map, Result};
 ghost use Rattle.std.specs.Str.{IsUtf8};
 ghost use Rattle.gr_base.specs.Lists.{Each, NoneTwice};
 ghost use Rattle.gr_tokens.specs.declared.ReadRefusal.{ReadRefusal as Refused};
@@ -10,6 +10,7 @@ ghost use Rattle.tg_reader.specs.Writable.{IsTable, IsTreeText};
 ghost use Rattle.tg_text.specs.Alike.{AreAlike};
 ghost use Rattle.tg_text.specs.Answers.{Classes, IsGrammarAnswer, IsGrammarReading, IsReadClass};
 ghost use Rattle.tg_text.specs.GrammarText.{class_text_of, grammar_text};
+ghost use Rattle.gr_text.specs.Limits.{IsShort};
 
 /// For each text of bytes one answer is right besides want of memory, whatever the table of texts:
 /// the same refusal, or classes with the same names, the same texts of trees and the same last lines,
@@ -24,7 +25,7 @@ pub fn one_answer()
 /// bytes, of which there are at most 1,048,576. It has each text once and begins with the ten first
 /// texts, as the one before, so that another text can be read into it.
 pub fn one_table()
-    ensures same { (bytes : List ℕ) (old new others : List (List ℕ)) (x y : Classes) → length bytes ≤ 1048576 → IsTable old
+    ensures same { (bytes : List ℕ) (old new others : List (List ℕ)) (x y : Classes) → IsShort bytes → IsTable old
         → IsGrammarAnswer bytes old new (Ok x) → IsGrammarAnswer bytes old others (Ok y) → new ≡ others }
     ensures table { (bytes : List ℕ) (old new : List (List ℕ)) (x : Classes) → IsTable old → IsGrammarAnswer bytes old new (Ok x) → IsTable new }
 {}

@@ -4,6 +4,7 @@ ghost use Rattle.std.specs.Bool.{OnTrue, OnFalse};
 ghost use Rattle.std.specs.Str.{IsUtf8};
 ghost use Rattle.gr_base.specs.Lists.{Each, IsAmong, IsBefore};
 ghost use Rattle.gr_symbols.specs.Numbers.{Grows};
+ghost use Rattle.gr_text.specs.Limits.{IsShort};
 ghost use Rattle.gr_text.specs.Places.{line_after};
 ghost use Rattle.td_canon.specs.TreeSets.{Entry, texts_of};
 ghost use Rattle.td_tree.specs.declared.Tree.{Tree as OneTree};
@@ -70,7 +71,7 @@ fn add_tree(
     text: &str,
     symbols: &mut Symbols,
 ) -> Result<bool, Memory>
-    requires few { length text.now ≤ 1048576 }
+    requires few { IsShort text.now }
     requires read { AreReadTrees symbols.old trees.old }
     ensures added { IfOk result (λ added. OnTrue added ((t : OneTree) × (trees.new ≡ trees.old ++ record { tree = t; text = text.now } ∷ [])
         × AreReadTrees symbols.new trees.new)) }
@@ -96,7 +97,7 @@ fn trees_in<'a>(
     text: &'a str,
     symbols: &mut Symbols,
 ) -> Result<(TreeSet, &'a str), Stop>
-    requires { length text.now ≤ 1048576 }
+    requires { IsShort text.now }
     ensures trees { IfOk result (λ r. HasTrees symbols.new r.0 text.now r.1.now) }
     ensures table { IfOk result (λ r. PutsTrees (texts_of r.0) symbols.old symbols.new) }
     ensures stops { IfErr result (λ stop. (names : List (List ℕ)) → StopsAt (inside names []) text.now stop) }
@@ -124,7 +125,7 @@ fn body_in<'a>(
     text: &'a str,
     symbols: &mut Symbols,
 ) -> Result<(ClassTrees, &'a str), Stop>
-    requires { length text.now ≤ 1048576 }
+    requires { IsShort text.now }
     ensures body { IfOk result (λ r. HasBody symbols.new r.0 text.now r.1.now) }
     ensures table { IfOk result (λ r. PutsTrees (texts_of r.0.trees) symbols.old symbols.new) }
     ensures class { IfOk result (λ r. r.0.class ≡ class) }
@@ -156,7 +157,7 @@ fn classes_in<'a>(
     text: &'a str,
     symbols: &mut Symbols,
 ) -> Result<(Vec<ClassTrees>, &'a str), Stop>
-    requires { length text.now ≤ 1048576 }
+    requires { IsShort text.now }
     ensures classes { IfOk result (λ r. HasClasses symbols.new r.0.items text.now r.1.now) }
     ensures last { IfOk result (λ r. NoClassNext r.1.now) }
     ensures table { IfOk result (λ r. PutsClasses (map (class_text_of symbols.new) r.0.items) symbols.old symbols.new) }
@@ -185,7 +186,7 @@ fn classes_in<'a>(
 
 /// The classes that a text has, whose lines are just those that are written for them.
 fn lines_in(alloc: Global, text: &str, symbols: &mut Symbols) -> Result<Vec<ClassTrees>, Stop>
-    requires { length text.now ≤ 1048576 }
+    requires { IsShort text.now }
     ensures classes { IfOk result (λ classes. AreReadClasses symbols.new text.now classes.items) }
     ensures table { IfOk result (λ classes. PutsClasses (map (class_text_of symbols.new) classes.items) symbols.old symbols.new) }
     ensures stops { IfErr result (λ stop. StopsAt begins text.now stop) }
@@ -208,7 +209,7 @@ fn lines_in(alloc: Global, text: &str, symbols: &mut Symbols) -> Result<Vec<Clas
 
 /// The number of the line where this many bytes are left.
 fn line_with(bytes: &[u8], left: usize) -> u32
-    requires { length bytes.now ≤ 1048576 }
+    requires { IsShort bytes.now }
     ensures { result ≡ line_after (take (length bytes.now - left) bytes.now) }
 {
     place_with(bytes, left).line
@@ -220,7 +221,7 @@ fn judged_lines(
     text: &str,
     symbols: &mut Symbols,
 ) -> Result<Vec<ClassTrees>, ReadRefusal>
-    requires { length text.now ≤ 1048576 }
+    requires { IsShort text.now }
     ensures answer { IsLinesAnswer text.now symbols.new result }
     ensures table { IfOk result (λ classes. PutsClasses (map (class_text_of symbols.new) classes.items) symbols.old symbols.new) }
     ensures grows { Grows symbols.old symbols.new }
@@ -253,7 +254,7 @@ pub fn read_grammar(
     bytes: &[u8],
     symbols: &mut Symbols,
 ) -> Result<Vec<ClassTrees>, ReadRefusal>
-    requires { length bytes.now ≤ 1048576 }
+    requires { IsShort bytes.now }
     ensures answer { IsGrammarAnswer bytes.now symbols.old symbols.new result }
     ensures grows { Grows symbols.old symbols.new }
     ensures few { length symbols.new ≤ length symbols.old + length bytes.now }

@@ -17,3 +17,4 @@ pub mod CanonBlocks
 pub mod CanonBodies
 pub mod CanonItems
 pub mod RoundTrip
+mod Known

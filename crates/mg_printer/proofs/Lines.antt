@@ -8,8 +8,8 @@ use Rattle.gr_texts.proofs.Printing.{line-spaced}
 use Rattle.mg_syntax.specs.declared.item.Item.{Item}
 use Rattle.mg_printer.specs.Pieces.{Piece, IsKnown, a_key, lexeme_of}
 use Rattle.mg_printer.specs.Items.{item_pieces}
-use Rattle.mg_printer.specs.Printing.{spelled, spelling, HasTexts}
-use Rattle.mg_printer.specs.Writing.{AreLinesLeft}
+use Rattle.mg_printer.specs.Printing.{spelled, spelling}
+use Rattle.mg_printer.specs.Writing.{AreWritable, AreLinesLeft}
 
 -- a keyword, pieces behind it and LF are a line
 pub line_written : (texts : List (List ℕ)) (key : List ℕ) (ps : List Piece) (old first behind new : List ℕ) → first ≡ old ++ key → behind ≡ first ++ spelled texts ps → new ≡ behind ++ 10 ∷ []
@@ -24,8 +24,8 @@ module _ (texts : List (List ℕ)) (all : List Item) (i : ℕ) (x : Item) (new :
   here : drop i all ≡ x ∷ drop (i + 1) all
   here = drop_more all i x within ∙ ap (λ z. z ∷ drop (i + 1) all) (sym is)
 
-  known : HasTexts texts (x ∷ drop (i + 1) all)
-  known = subst (λ z. HasTexts texts z) here l.known
+  known : AreWritable texts (x ∷ drop (i + 1) all)
+  known = subst (λ z. AreWritable texts z) here l.known
 
   pub line_here : Each (IsKnown (length texts)) (item_pieces x)
   line_here = known.0

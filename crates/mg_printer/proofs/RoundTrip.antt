@@ -35,7 +35,7 @@ use Rattle.mg_reader.specs.Spelling.{Maybe, Row, SpellsItem}
 use Rattle.mg_reader.specs.Answers.{IsMetagrammar}
 use Rattle.mg_printer.specs.Pieces.{Piece, a_sign, a_key, a_word, a_name, a_variable, text_of, lexeme_of, IsKnown}
 use Rattle.mg_printer.specs.Items.{item_pieces}
-use Rattle.mg_printer.specs.Printing.{canonical, spelling, HasTexts}
+use Rattle.mg_printer.specs.Printing.{canonical, spelling}
 use Rattle.mg_printer.proofs.Covering.{Fits}
 use Rattle.mg_printer.proofs.Fitting.{IsWritten, FitsPiece, FitPieces, Has, reals, word_class}
 use Rattle.mg_printer.proofs.KindLists.{flat_kind}
@@ -78,29 +78,7 @@ module _ (texts : List (List ℕ)) where
   text_at : (n : ℕ) (t : List ℕ) → Names texts n t → text_of texts n ≡ t
   text_at n t e = get_or_from_slice_get texts n t [] e
 
-  below : (xs : List (List ℕ)) (n : ℕ) (t : List ℕ) → slice_get xs n ≡ Some t → n < length xs
-  below [] n t e = absurd cc
-  below (x ∷ xs) zero t e = omega arith
-  below (x ∷ xs) (suc n) t e = omega (arith, below xs n t e)
-
-  -- what can be written has a number with a text
-  known : (p : Piece) → IsWritten texts p → IsKnown (length texts) p
-  known (a_sign t) w = tt
-  known (a_key t) w = tt
-  known (a_word n) (t, e, w) = below texts n t e
-  known (a_name n) (t, e, w) = below texts n t e
-  known (a_variable n) (t, e, w) = below texts n t e
-
-  each_known : (ps : List Piece) → Each (IsWritten texts) ps → Each (IsKnown (length texts)) ps
-  each_known [] h = tt
-  each_known (p ∷ ps) h = (known p h.0, each_known ps h.1)
-
-  pub all_known : (m : List Item) → Each (IsWritten texts) (gathered item_pieces m) → HasTexts texts m
-  all_known [] h = tt
-  all_known (i ∷ m) h =
-      (each_known (item_pieces i) (Each-left (IsWritten texts) (item_pieces i) (gathered item_pieces m) h), all_known m (Each-right (IsWritten texts) (item_pieces i) (gathered item_pieces m) h))
-
-  -- and is a lexeme
+  -- what can be written is a lexeme
   sign_utf8 : (t : List ℕ) → IsAmong signs t → IsUtf8 t
   unfolding all_low
   sign_utf8 t i = Each-at IsUtf8 signs t (ascii-utf8 _ refl, (ascii-utf8 _ refl, (ascii-utf8 _ refl, (ascii-utf8 _ refl, (ascii-utf8 _ refl, (ascii-utf8 _ refl, (ascii-utf8 _ refl, (ascii-utf8 _ refl, (ascii-utf8 _ refl, (ascii-utf8 _ refl, (ascii-utf8 _ refl, (ascii-utf8 _ refl, (ascii-utf8 _ refl, (ascii-utf8 _ refl, (ascii-utf8 _ refl, (ascii-utf8 _ refl, (ascii-utf8 _ refl, (ascii-utf8 _ refl, (ascii-utf8 _ refl, (ascii-utf8 _ refl, (ascii-utf8 _ refl, (ascii-utf8 _ refl, (ascii-utf8 _ refl, (ascii-utf8 _ refl, tt)))))))))))))))))))))))) i
@@ -219,9 +197,6 @@ canon_of bytes texts later m first grows distinct g =
     let ts = g.are.tokens in
     let real = reals bytes texts later ts g.lexemes has (slices bytes [] bytes [] ts refl g.are.are.cut) (all_have bytes ts g.are.are) (all_written bytes ts g.are.are) g.are.each in
     canon_items later distinct (has CAT (codes "cat") (grown first_texts texts first CAT (codes "cat") refl)) m g.lexemes [] real g.spelled
-
-pub has_texts : (bytes : List ℕ) (texts later : List (List ℕ)) (m : List Item) → Grows first_texts texts → Grows texts later → NoneTwice later → IsMetagrammar bytes texts m → HasTexts later m
-has_texts bytes texts later m first grows distinct g = all_known later m (canon_of bytes texts later m first grows distinct g).written
 
 pub read_again : (bytes : List ℕ) (texts later : List (List ℕ)) (m : List Item) → Grows first_texts texts → Grows texts later → NoneTwice later → IsMetagrammar bytes texts m → IsMetagrammar (spelling later m) later m
 read_again bytes texts later m first grows distinct g =

@@ -4,7 +4,8 @@ ghost use Rattle.gr_base.specs.Lists.{NoneTwice};
 ghost use Rattle.gr_symbols.specs.Numbers.{Grows, first_texts};
 ghost use Rattle.mg_syntax.specs.declared.item.Item.{Item as Entry};
 ghost use Rattle.mg_reader.specs.Answers.{IsMetagrammar};
-ghost use Rattle.mg_printer.specs.Printing.{HasTexts, spelling};
+ghost use Rattle.mg_syntax.specs.Names.{HasTexts};
+ghost use Rattle.mg_printer.specs.Printing.{spelling};
 
 /// A metagrammar that was read can be printed, and its canonical spelling spells the same
 /// metagrammar, within the limits: with the table of names as it was then, and with one that has

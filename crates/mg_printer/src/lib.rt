@@ -23,7 +23,8 @@ pub mod laws;
 mod values;
 
 ghost use Rattle.std.specs.Prelude.{◌≡◌, string_bytes, IfOk};
-ghost use Rattle.mg_printer.specs.Printing.{HasTexts, spelling};
+ghost use Rattle.mg_syntax.specs.Names.{HasTexts};
+ghost use Rattle.mg_printer.specs.Printing.{spelling};
 
 use crate::items::item;
 pub use gr_base::Memory;

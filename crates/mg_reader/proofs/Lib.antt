@@ -10,3 +10,4 @@ mod Unspelled
 mod OneRight
 pub mod SomeAnswer
 mod Tables
+pub mod Named

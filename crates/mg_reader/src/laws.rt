@@ -4,7 +4,9 @@ ghost use Rattle.gr_base.specs.Lists.{NoneTwice};
 ghost use Rattle.gr_tokens.specs.declared.ReadRefusal.{ReadRefusal as Refused};
 ghost use Rattle.mg_syntax.specs.declared.item.Item.{Item as Entry};
 ghost use Rattle.gr_grammar.specs.Grammars.{IsText};
-ghost use Rattle.mg_reader.specs.Answers.{IsRight, class_count};
+ghost use Rattle.gr_symbols.specs.Numbers.{Grows, first_texts};
+ghost use Rattle.mg_syntax.specs.Names.{HasTexts};
+ghost use Rattle.mg_reader.specs.Answers.{IsMetagrammar, IsRight, class_count};
 ghost use Rattle.mg_reader.specs.Complaints.{metagrammar_bad};
 ghost use Rattle.mg_reader.specs.Grammar.{system, metagrammar_text};
 ghost use Rattle.mg_reader.specs.Spelling.{Spells};
@@ -48,4 +50,11 @@ pub fn one_table()
 pub fn some_answer()
     ensures { (bytes : List ℕ) (old new : List (List ℕ)) → IsTable bytes old new
         → (answer : Result (List Entry) Refused) × IsRight bytes new answer }
+{}
+
+/// Each name of a metagrammar that was read has a text: in the table that its text belongs to, and
+/// in one that has grown since.
+pub fn names_have_texts()
+    ensures { (bytes : List ℕ) (texts later : List (List ℕ)) (m : List Entry) → Grows first_texts texts → Grows texts later
+        → IsMetagrammar bytes texts m → HasTexts later m }
 {}

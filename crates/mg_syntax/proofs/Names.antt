@@ -1,7 +1,8 @@
 -- The names of a block, of a kid and of a statement, by what they have.
 use Rattle.std.specs.Prelude.{◌≡◌, List, [], ◌∷◌, ◌++◌, map, refl}
 use Rattle.std.proofs.Common.{sym, ap, ◌∙◌}
-use Rattle.gr_base.specs.Lists.{gathered, joined}
+use Rattle.gr_base.specs.Lists.{Each, gathered, joined}
+use Rattle.gr_base.proofs.ListLemmas.{Each-left, Each-right, Each-append}
 use Rattle.gr_terms.specs.declared.Sym.{Sym}
 use Rattle.mg_syntax.specs.declared.body.Statement.{Statement, out-Statement, roll-Statement, map-Statement, fold_out-Statement, fold-roll-Statement}
 use Rattle.mg_syntax.specs.declared.body.Statement.TheOpen.{Statement-F}
@@ -67,3 +68,13 @@ statement_names-out s = fold_out-Statement (List Sym) statement_step s ∙ layer
 pub statement_names-roll : (layer : Statement-F Statement) (s : Statement) → roll-Statement layer ≡ s → statement_names s ≡ layer_names layer
 unfolding statement_names
 statement_names-roll layer s is = ap statement_names (sym is) ∙ (fold-roll-Statement (List Sym) statement_step layer ∙ layer_joined layer)
+
+-- of names that are gathered
+module _ {A B : Type 0} (P : B → Type 0) (f : A → List B) where
+  pub Each-gathered : (xs : List A) → Each (λ x. Each P (f x)) xs → Each P (gathered f xs)
+  Each-gathered [] h = tt
+  Each-gathered (x ∷ xs) h = Each-append P (f x) (gathered f xs) h.0 (Each-gathered xs h.1)
+
+  pub Each-gathered_from : (xs : List A) → Each P (gathered f xs) → Each (λ x. Each P (f x)) xs
+  Each-gathered_from [] h = tt
+  Each-gathered_from (x ∷ xs) h = (Each-left P (f x) (gathered f xs) h, Each-gathered_from xs (Each-right P (f x) (gathered f xs) h))

@@ -1,3 +1,4 @@
+use Rattle.mg_printer.proofs.Known.{writable}
 use Rattle.mg_printer.proofs.Lines.{line_here, line_next}
 use Rattle.mg_printer.proofs.print_metagrammar.Goals as goal
 

@@ -12,7 +12,7 @@ use Rattle.td_canon.specs.CanonicalTexts.{text_in}
 use Rattle.td_canon.specs.TreeSets.{Entry, IsWhole, texts_of}
 use Rattle.td_solver.proofs.Texts.{solution_text}
 use Rattle.mg_facts.specs.Meanings.{names_in}
-use Rattle.mg_printer.specs.Printing.{HasTexts}
+use Rattle.mg_syntax.specs.Names.{HasTexts}
 use Rattle.mg_expand.specs.declared.step.Step.{Step}
 use Rattle.mg_expand.specs.declared.step.Step.TheVariants as step
 use Rattle.mg_expand.specs.Progress.{Progress}

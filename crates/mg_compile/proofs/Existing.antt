@@ -8,7 +8,7 @@ use Rattle.gr_base.proofs.ListLemmas.{IsAmong-append, IsAmong-append_left, IsAmo
 use Rattle.gr_terms.specs.Networks.{Term, name, variable, Assertion, entry, equate, link}
 use Rattle.gr_terms.specs.declared.Sym.{Sym}
 use Rattle.mg_syntax.specs.declared.item.Item.{Item}
-use Rattle.mg_printer.specs.Printing.{HasTexts}
+use Rattle.mg_syntax.specs.Names.{HasTexts}
 use Rattle.td_canon.specs.CanonicalTexts.{text_in}
 use Rattle.td_canon.proofs.OrderLemmas.{texts_apart}
 use Rattle.td_desc.specs.Descriptions.{Description}

@@ -32,15 +32,6 @@ pub all_below : (count : ℕ) (all : List Said) → Each (IsNamedSaid count) all
 all_below count [] h = tt
 all_below count (s ∷ all) h = Each-append (λ a. a < count) (names_in s) (gathered names_in all) h.0 (all_below count all h.1)
 
-pub each_by : {A : Type 0} (Q R : A → Type 0) → ((x : A) → Q x → R x) → (xs : List A) → Each Q xs → Each R xs
-each_by Q R f [] h = tt
-each_by Q R f (x ∷ xs) h = (f x h.0, each_by Q R f xs h.1)
-
--- what holds of all that is gathered holds of what each gives
-pub gathered_each : {A B : Type 0} (P : B → Type 0) (f : A → List B) (xs : List A) → Each P (gathered f xs) → Each (λ x. Each P (f x)) xs
-gathered_each P f [] h = tt
-gathered_each P f (x ∷ xs) h = (Each-left P (f x) (gathered f xs) h, gathered_each P f xs (Each-right P (f x) (gathered f xs) h))
-
 module _ (count : ℕ) where
   abbrev pub IsNamedSide : Side → Type 0
   IsNamedSide (side.Ref r) = ⊤

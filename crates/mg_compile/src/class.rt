@@ -2,7 +2,7 @@
 ghost use Rattle.std.specs.Prelude.{◌≡◌, ◌⊎◌, IfOk, IfErr};
 ghost use Rattle.td_canon.specs.CanonicalTexts.{text_in};
 ghost use Rattle.td_canon.specs.TreeSets.{IsWhole, texts_of};
-ghost use Rattle.mg_printer.specs.Printing.{HasTexts};
+ghost use Rattle.mg_syntax.specs.Names.{HasTexts};
 ghost use Rattle.mg_scope.specs.Faults.{IsThere};
 ghost use Rattle.gr_base.specs.Lists.{Each};
 ghost use Rattle.mg_compile.specs.Compiled.{IsCompiledTree, IsRightList, IsClassFault};

@@ -4,7 +4,7 @@ ghost use Rattle.gr_base.specs.Lists.{NoneTwice};
 ghost use Rattle.gr_terms.specs.declared.Sym.{Sym};
 ghost use Rattle.mg_syntax.specs.declared.item.Class.{Class};
 ghost use Rattle.mg_syntax.specs.declared.item.Item.{Item};
-ghost use Rattle.mg_printer.specs.Printing.{HasTexts};
+ghost use Rattle.mg_syntax.specs.Names.{HasTexts};
 ghost use Rattle.mg_scope.specs.Classes.{class_of};
 ghost use Rattle.mg_scope.specs.Faults.{IsScoped};
 ghost use Rattle.td_canon.specs.CanonicalTexts.{text_in};

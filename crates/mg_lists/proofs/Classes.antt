@@ -21,7 +21,7 @@ use Rattle.mg_reader.specs.Answers.{IsMetagrammar}
 use Rattle.mg_scope.specs.Classes.{firsts, valuation}
 use Rattle.mg_scope.proofs.ClassLemmas.{class_of-stands}
 use Rattle.mg_expand.specs.Items.{expansion_said}
-use Rattle.mg_compile.proofs.Known.{each_by}
+use Rattle.mg_syntax.proofs.Names.{Each-by}
 use Rattle.td_canon.specs.TreeSets.{Entry, trees_of}
 use Rattle.td_canon.specs.CanonicalTexts.{text_in, HasText}
 use Rattle.td_canon.specs.declared.tree_set.ClassTrees.{ClassTrees}
@@ -128,7 +128,7 @@ read_marks texts (c ∷ classes) h = (
 -- ---- and are read back
 
 pub all_read : (bytes : List ℕ) (texts later : List (List ℕ)) (m : List Item) (classes : List ClassTrees) → IsTable later → Grows texts later → IsMetagrammar bytes texts m → Each (IsCompiledClass later m) classes → Each (IsReadClass later) classes
-all_read bytes texts later m classes table grows g each = each_by (IsCompiledClass later m) (IsReadClass later) (λ t. compiled_is_read bytes texts later m t table grows g) classes each
+all_read bytes texts later m classes table grows g each = Each-by (IsCompiledClass later m) (IsReadClass later) (λ t. compiled_is_read bytes texts later m t table grows g) classes each
 
 pub compiled_once : (texts : List (List ℕ)) (m : List Item) (classes : List ClassTrees) → AreCompiled texts m classes → NoneTwice (map (λ (c : ClassTrees). c.class) classes)
 compiled_once texts m classes compiled = subst NoneTwice (sym compiled.valued) (firsts_once (gathered valuation m))

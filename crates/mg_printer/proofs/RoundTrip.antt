@@ -1,5 +1,5 @@
 -- The canonical spelling spells the same metagrammar.
-use Rattle.std.specs.Prelude.{◌≡◌, ℕ, ◌≤◌, ◌<◌, zero, suc, List, [], ◌∷◌, ◌++◌, length, map, cond, codes, Bool, true, false, ◌&&◌, nat_le, nat_lt, Some, slice_get, refl}
+use Rattle.std.specs.Prelude.{◌≡◌, ℕ, ◌≤◌, ◌<◌, zero, suc, List, [], ◌∷◌, ◌++◌, length, map, cond, codes, Bool, true, false, ◌&&◌, nat_le, nat_lt, refl}
 use Rattle.std.specs.Str.{IsUtf8, IsAscii}
 use Rattle.std.proofs.Common.{sym, ap, ap₂, ◌∙◌, subst, arith, lit≤}
 use Rattle.std.proofs.lemmas.Bool.{and_parts, leb-true, ltb-true}
@@ -33,7 +33,7 @@ use Rattle.mg_reader.specs.Kinds.{word_kind, kind_number, turn, turn_of}
 use Rattle.mg_reader.specs.Lexemes.{kind_of, HasName, IsLexeme, EachIs}
 use Rattle.mg_reader.specs.Spelling.{Maybe, Row, SpellsItem}
 use Rattle.mg_reader.specs.Answers.{IsMetagrammar}
-use Rattle.mg_printer.specs.Pieces.{Piece, a_sign, a_key, a_word, a_name, a_variable, text_of, lexeme_of, IsKnown}
+use Rattle.mg_printer.specs.Pieces.{Piece, a_sign, a_key, a_word, a_name, a_variable, text_of, lexeme_of}
 use Rattle.mg_printer.specs.Items.{item_pieces}
 use Rattle.mg_printer.specs.Printing.{canonical, spelling}
 use Rattle.mg_printer.proofs.Covering.{Fits}

@@ -32,7 +32,6 @@ fn printed(alloc: Global, bytes: &[u8]) -> Result<Option<Spelling>, Memory> {
     let Ok(metagrammar) = read_metagrammar(alloc, bytes, &mut symbols) else {
         return Ok(None);
     };
-    let _count = symbols.len();
     let text = print_metagrammar(alloc, &metagrammar, &symbols)?;
     Ok(Some(Spelling {
         items: metagrammar.len(),

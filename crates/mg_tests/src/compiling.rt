@@ -44,7 +44,6 @@ fn compiled(alloc: Global, text: &str, budget: u32) -> Result<ClassTrees, Compil
     let Ok(read) = read_metagrammar(alloc, bytes, &mut symbols) else {
         return Err(CompileRefusal::Memory);
     };
-    let _count = symbols.len();
     let Ok(resolved) = resolve(alloc, read) else {
         return Err(CompileRefusal::Memory);
     };

@@ -15,7 +15,6 @@ fn canonical(alloc: Global, text: &str) -> Result<Option<String>, Memory> {
     let Ok(m) = read_metagrammar(alloc, bytes, &mut symbols) else {
         return Ok(None);
     };
-    let _count = symbols.len();
     let printed = print_metagrammar(alloc, &m, &symbols)?;
     Ok(Some(printed))
 }

@@ -9,10 +9,8 @@ use Rattle.mg_syntax.specs.declared.body.Ref.{Ref}
 use Rattle.mg_syntax.specs.declared.item.Class.{Class}
 use Rattle.mg_syntax.specs.declared.item.Item.{Item}
 use Rattle.mg_syntax.specs.declared.item.Item.TheVariants as item
-use Rattle.mg_printer.specs.Pieces.{Piece, a_sign, a_word, IsKnown}
-use Rattle.mg_printer.specs.Bodies.{call_pieces, body_pieces, group_pieces}
-use Rattle.mg_printer.specs.Items.{listed, variable_pieces, class_head, class_behind, item_pieces}
-use Rattle.mg_printer.specs.Printing.{HasTexts}
+use Rattle.mg_syntax.specs.Names.{body_names, class_names, header_names, item_names, all_names, HasTexts}
+use Rattle.mg_syntax.proofs.Names.{Each-gathered_from}
 use Rattle.mg_scope.specs.declared.uses.Use.{Use}
 use Rattle.mg_scope.specs.declared.uses.Use.TheVariants.{Alone, Bound, Called, Dotted}
 use Rattle.mg_scope.specs.declared.refusal.ScopeRefusal.{ScopeRefusal}
@@ -53,18 +51,6 @@ module _ (texts : List (List ℕ)) where
   abbrev Has : Sym → Type 0
   Has s = s.0 < length texts
 
-  abbrev P : Piece → Type 0
-  P = IsKnown (length texts)
-
-  -- the numbers of a class
-  gathered_has : (f : Sym → List Piece) → ((s : Sym) → Each P (f s) → Has s) → (xs : List Sym) → Each P (gathered f xs) → Each Has xs
-  gathered_has f here [] h = tt
-  gathered_has f here (x ∷ xs) h = (here x (Each-left P (f x) (gathered f xs) h), gathered_has f here xs (Each-right P (f x) (gathered f xs) h))
-
-  listed_has : (key : List ℕ) (f : Sym → List Piece) → ((s : Sym) → Each P (f s) → Has s) → (xs : List Sym) → Each P (listed key f xs) → Each Has xs
-  listed_has key f here [] h = tt
-  listed_has key f here (x ∷ xs) h = gathered_has f here (x ∷ xs) h.1
-
   called_has : (us : List Use) → Each (IsKnownUse (length texts)) us → Each Has (called_classes us)
   called_has [] h = tt
   called_has (u ∷ us) h = Each-append Has (called_class u) (called_classes us) (one u h.0) (called_has us h.1)
@@ -75,34 +61,24 @@ module _ (texts : List (List ℕ)) where
       one (Called c) k = (k, tt)
       one (Dotted x y) k = tt
 
-  module _ (k : Class) (h : Each P (item_pieces (item.Class k))) where
-    head : Each P (class_head k)
-    head = Each-left P (class_head k) (group_pieces k.body) h.1
+  module _ (k : Class) (h : Each Has (class_names k)) where
+    lists : Each Has (k.imports ++ k.exports ++ k.declares)
+    lists = Each-left Has (k.imports ++ k.exports ++ k.declares) (body_names k.body) h.1
 
-    imported : List Piece
-    imported = a_word k.name.0 ∷ listed (codes "import") call_pieces k.imports
-
-    exported : List Piece
-    unfolding imported
-    exported = imported ++ listed (codes "export") variable_pieces k.exports
-
-    front : Each P exported
-    unfolding imported exported
-    front = Each-left P exported (listed (codes "declare") variable_pieces k.declares) head
+    front : Each Has (k.imports ++ k.exports)
+    front = Each-left Has (k.imports ++ k.exports) k.declares lists
 
     pub class_has : Has k.name
-    class_has = head.0
+    class_has = h.0
 
     imports_has : Each Has k.imports
-    unfolding imported exported
-    imports_has = listed_has (codes "import") call_pieces (λ s p. p.0) k.imports (Each-left P imported (listed (codes "export") variable_pieces k.exports) front).1
+    imports_has = Each-left Has k.imports k.exports front
 
     pub exports_has : Each Has k.exports
-    unfolding imported exported
-    exports_has = listed_has (codes "export") variable_pieces (λ s p. p.0) k.exports (Each-right P imported (listed (codes "export") variable_pieces k.exports) front)
+    exports_has = Each-right Has k.imports k.exports front
 
     pub uses_have : Each (IsKnownUse (length texts)) (uses_of k)
-    uses_have = body_known (length texts) k.body (Each-left P (body_pieces k.body) (a_sign (codes "}") ∷ []) (Each-right P (class_head k) (group_pieces k.body) h.1).1)
+    uses_have = body_known (length texts) k.body (Each-right Has (k.imports ++ k.exports ++ k.declares) (body_names k.body) h.1)
 
     pub mentions_has : Each Has (mentions k)
     mentions_has = Each-append Has k.imports (called_classes (uses_of k)) imports_has (called_has (uses_of k) uses_have)
@@ -110,13 +86,13 @@ module _ (texts : List (List ℕ)) where
   -- what the class of a name mentions
   mentioned_has : (m : List Item) → HasTexts texts m → (c : Sym) → Each Has (mentioned m c)
   mentioned_has [] h c = tt
-  mentioned_has (item.Class k ∷ m) h c = by (k.name.0 == c.0) (mentioned_has m h.1 c)
+  mentioned_has (item.Class k ∷ m) h c = by (k.name.0 == c.0) (mentioned_has m (Each-right Has (class_names k) (all_names m) h) c)
     where
       by : (t : Bool) → Each Has (mentioned m c) → Each Has (mentions_of (if t then Some k else class_of m c))
-      by true more = mentions_has k h.0
+      by true more = mentions_has k (Each-left Has (class_names k) (all_names m) h)
       by false more = more
   mentioned_has (item.Value v ∷ m) h c = mentioned_has m h.1 c
-  mentioned_has (item.Header x ∷ m) h c = mentioned_has m h.1 c
+  mentioned_has (item.Header x ∷ m) h c = mentioned_has m (Each-right Has (header_names x) (all_names m) h) c
 
   way_has : (next : Sym → List Sym) → ((a : Sym) → Each Has (next a)) → (goal a : Sym) (bs : List Sym) → IsWayBack next goal a bs → Each Has bs
   way_has next has goal a [] way = tt
@@ -149,7 +125,10 @@ module _ (texts : List (List ℕ)) where
 
   -- a fault of an item of the metagrammar
   module _ (m : List Item) (known : HasTexts texts m) where
-    class_fault_has : (done : List Item) (k : Class) → Each P (item_pieces (item.Class k)) → (e : ScopeRefusal) (r : Refusal) → HasClassFault m done k e → IsOfScope e r → lines.HasTexts texts r
+    each_known : Each (λ i. Each Has (item_names i)) m
+    each_known = Each-gathered_from Has item_names m known
+
+    class_fault_has : (done : List Item) (k : Class) → Each Has (class_names k) → (e : ScopeRefusal) (r : Refusal) → HasClassFault m done k e → IsOfScope e r → lines.HasTexts texts r
     class_fault_has done k h (scope.UnknownClass c) r fault is =
         subst (λ z. lines.HasTexts texts z) (sym is) (tt, (first_has _ Has (mentions k) c fault (mentions_has k h), tt))
     class_fault_has done k h (scope.ClassCycle names) r fault is =
@@ -175,15 +154,15 @@ module _ (texts : List (List ℕ)) where
     value_fault_has v h (scope.NotExported c x) r fault is = absurd fault
     value_fault_has v h scope.Memory r fault is = absurd fault
 
-    item_fault_has : (done : List Item) (i : Item) → Each P (item_pieces i) → (e : ScopeRefusal) (r : Refusal) → HasFault m done i e → IsOfScope e r → lines.HasTexts texts r
+    item_fault_has : (done : List Item) (i : Item) → Each Has (item_names i) → (e : ScopeRefusal) (r : Refusal) → HasFault m done i e → IsOfScope e r → lines.HasTexts texts r
     item_fault_has done (item.Class k) h e r fault is = class_fault_has done k h e r fault is
-    item_fault_has done (item.Value v) h e r fault is = value_fault_has v h.1.0 e r fault is
+    item_fault_has done (item.Value v) h e r fault is = value_fault_has v h.0 e r fault is
     item_fault_has done (item.Header x) h e r fault is = absurd fault
 
     pub scope_has : (e : ScopeRefusal) (r : Refusal) → IsFirstFault m e → IsOfScope e r → lines.HasTexts texts r
     scope_has e r (done, rest, i, split, fault, before) is =
-        item_fault_has done i (Each-at (λ j. Each P (item_pieces j)) m i known (subst (λ z. IsAmong z i) (sym split) (IsAmong-append_right done (i ∷ rest) i (inl refl)))) e r fault.0 is
+        item_fault_has done i (Each-at (λ j. Each Has (item_names j)) m i each_known (subst (λ z. IsAmong z i) (sym split) (IsAmong-append_right done (i ∷ rest) i (inl refl)))) e r fault.0 is
 
     -- the numbers of valued classes
     pub valued_has : Each Has (valued_classes m)
-    valued_has = valued_each Has m (λ c i. (Each-at (λ j. Each P (item_pieces j)) m (item.Value c) known i).1.0)
+    valued_has = valued_each Has m (λ c i. (Each-at (λ j. Each Has (item_names j)) m (item.Value c) each_known i).0)

@@ -18,7 +18,7 @@ use Rattle.mg_syntax.specs.declared.item.Item.TheVariants as item
 use Rattle.mg_reader.specs.Answers.{IsMetagrammar, IsRefusal, IsRight}
 use Rattle.mg_reader.specs.Tables.{IsTable}
 use Rattle.mg_reader.proofs.SomeAnswer.{table_grows}
-use Rattle.mg_printer.specs.Printing.{HasTexts}
+use Rattle.mg_syntax.specs.Names.{HasTexts}
 use Rattle.mg_scope.specs.Classes.{class_of, valued_classes}
 use Rattle.mg_scope.specs.Faults.{IsThere, IsScoped, IsFirstFault, HasFault}
 use Rattle.mg_scope.specs.declared.refusal.ScopeRefusal.{ScopeRefusal}
@@ -176,10 +176,10 @@ module _ (apart : TextsApart) (some_answer : SomeAnswer) (some_table : SomeTable
 
   module _ (short : length bytes ≤ 1048576) (texts : List (List ℕ)) (numbered : IsNumbering bytes texts) (grows : Grows first_texts texts) where
     of_scoped : (m : List Item) → IsMetagrammar bytes texts m → IsScoped m ⊎ ((f : ScopeRefusal) × IsFirstFault m f) → HasOutcome
-    of_scoped m spelled (inl scoped) = of_good texts numbered m (record { short = short; spelled = spelled; scoped = scoped }) (all_named apart bytes texts m grows numbered spelled)
+    of_scoped m spelled (inl scoped) = of_good texts numbered m (record { short = short; spelled = spelled; scoped = scoped }) (all_named bytes texts m grows spelled)
     of_scoped m spelled (inr (e, fault)) =
         let r = of_scope m e fault in
-        refused_by texts r.0 numbered (unscoped m e short spelled fault r.1) (scope_has texts m (all_named apart bytes texts m grows numbered spelled) e r.0 fault r.1)
+        refused_by texts r.0 numbered (unscoped m e short spelled fault r.1) (scope_has texts m (all_named bytes texts m grows spelled) e r.0 fault r.1)
 
     of_answer : (a : Result (List Item) ReadRefusal) → IsRight bytes texts a → HasOutcome
     of_answer (Ok m) h = of_scoped m h (either m)

@@ -15,8 +15,8 @@ use Rattle.gr_tokens.specs.declared.ReadRefusal.TheVariants as reading
 use Rattle.mg_syntax.specs.declared.item.Item.{Item}
 use Rattle.mg_reader.specs.Answers.{IsMetagrammar, IsRefusal}
 use Rattle.mg_reader.specs.Tables.{IsTable}
-use Rattle.mg_printer.specs.Printing.{HasTexts}
-use Rattle.mg_printer.proofs.RoundTrip.{has_texts}
+use Rattle.mg_syntax.specs.Names.{HasTexts}
+use Rattle.mg_reader.proofs.Named.{names_have_texts}
 use Rattle.mg_scope.specs.Classes.{valued_classes}
 use Rattle.mg_scope.specs.Faults.{IsThere, IsScoped, IsFirstFault}
 use Rattle.mg_scope.specs.declared.refusal.ScopeRefusal.{ScopeRefusal}
@@ -99,15 +99,15 @@ scope_stops m e stop.Memory fault of = tt
 scope_stops m e (stop.Refused r) fault of = (e, fault (λ none. subst (λ z. IsOfScope z r) none of), of)
 
 -- the names of a metagrammar that was read have texts
-pub all_named : TextsApart → (bytes : List ℕ) (texts : List (List ℕ)) (m : List Item) → Grows first_texts texts → IsNumbering bytes texts → IsMetagrammar bytes texts m → HasTexts texts m
-all_named apart bytes texts m grows numbered spelled = has_texts bytes texts texts m grows (Grows-refl texts) (texts_apart apart bytes texts numbered) spelled
+pub all_named : (bytes : List ℕ) (texts : List (List ℕ)) (m : List Item) → Grows first_texts texts → IsMetagrammar bytes texts m → HasTexts texts m
+all_named bytes texts m grows spelled = names_have_texts texts texts grows (Grows-refl texts) bytes m spelled
 
-pub unscoped_file : TextsApart → (bytes : List ℕ) (texts : List (List ℕ)) (m : List Item) → length bytes ≤ 1048576 → Grows first_texts texts → IsNumbering bytes texts → IsMetagrammar bytes texts m
+pub unscoped_file : (bytes : List ℕ) (texts : List (List ℕ)) (m : List Item) → length bytes ≤ 1048576 → Grows first_texts texts → IsNumbering bytes texts → IsMetagrammar bytes texts m
     → (r : Refusal) → (e : ScopeRefusal) × IsFirstFault m e × IsOfScope e r → (models : ℕ) → IsRefusedFile bytes models texts r
-unscoped_file apart bytes texts m short grows numbered spelled r (e, fault, of) models = record {
+unscoped_file bytes texts m short grows numbered spelled r (e, fault, of) models = record {
   numbered = numbered;
   first = unscoped m e short spelled fault of;
-  named = scope_has texts m (all_named apart bytes texts m grows numbered spelled) e r fault of;
+  named = scope_has texts m (all_named bytes texts m grows spelled) e r fault of;
 }
 
 -- classes

@@ -2,7 +2,7 @@
 ghost use Rattle.std.specs.Prelude.{◌≡◌, ◌<◌, ◌++◌, ◌∷◌, [], ⊤, ℕ, List, map, length, IfErr, IfOk, OnOk};
 ghost use Rattle.gr_base.specs.Lists.{Each};
 ghost use Rattle.gr_symbols.specs.Numbers.{first_texts};
-ghost use Rattle.mg_printer.specs.Printing.{HasTexts};
+ghost use Rattle.mg_syntax.specs.Names.{HasTexts};
 ghost use Rattle.mg_scope.specs.Classes.{valued_classes};
 ghost use Rattle.mg_scope.specs.Faults.{IsFirstFault, IsScoped, IsThere};
 ghost use Rattle.mg_scope.specs.declared.refusal.ScopeRefusal.{ScopeRefusal as Unscoped};
@@ -22,7 +22,6 @@ use crate::refusals::{Stop, unread};
 use gr_symbols::Symbols;
 use gr_terms::Sym;
 use mg_compile::compile_class;
-use mg_reader::laws::one_table;
 use mg_reader::read_metagrammar;
 use mg_scope::{Resolved, resolve};
 use mg_syntax::Metagrammar;
@@ -50,7 +49,6 @@ fn resolved(alloc: Global, bytes: &[u8], symbols: &mut Symbols) -> Result<Resolv
     ensures named { IfOk result (λ r. HasTexts symbols.new r) }
     ensures refused { IfErr result (λ s. Stops ⊤ (λ r. (models : ℕ) → IsRefusedFile bytes.now models symbols.new r) s) }
 {
-    one_table();
     if BYTE_LIMIT < bytes.len() {
         return Err(Stop::Refused(Refusal::TooLong(Role::Metagrammar)));
     }

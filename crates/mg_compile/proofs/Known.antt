@@ -2,7 +2,7 @@
 use Rattle.std.specs.Prelude.{ℕ, ◌+◌, ◌<◌, List, [], ◌∷◌, ◌++◌, map, Bool, true, false, Option, Some, None, ⊤}
 use Rattle.gr_base.specs.Lists.{Each, gathered}
 use Rattle.gr_base.specs.Forests.{Forest, empty, tree}
-use Rattle.gr_base.proofs.ListLemmas.{Each-left, Each-right, Each-append}
+use Rattle.gr_base.proofs.ListLemmas.{Each-append}
 use Rattle.gr_terms.specs.declared.Sym.{Sym}
 use Rattle.mg_syntax.specs.declared.body.Ref.{Ref}
 use Rattle.mg_syntax.specs.declared.body.Side.{Side}

@@ -1,16 +1,13 @@
 -- Each name that an expansion says has a text, where each name of the metagrammar has one.
-use Rattle.std.specs.Prelude.{◌≡◌, ℕ, ◌+◌, ◌<◌, List, [], ◌∷◌, ◌++◌, map, Bool, true, false, not, cond, Option, Some, None, ⊤, codes}
-use Rattle.std.specs.List.{filter}
-use Rattle.std.proofs.Common.{refl, sym, subst, arith}
-use Rattle.std.proofs.lemmas.Bool.{eqb-true}
+use Rattle.std.specs.Prelude.{◌≡◌, ℕ, ◌+◌, ◌<◌, List, [], ◌∷◌, ◌++◌, map, Option, Some, None, ⊤}
+use Rattle.std.proofs.Common.{sym, subst}
 use Rattle.gr_base.specs.Lists.{Each, gathered}
-use Rattle.gr_base.proofs.ListLemmas.{Each-at, Each-left, Each-right, Each-append, Each-map, Each-map_from, IsAmong-slice_get}
-use Rattle.gr_terms.specs.Constants.{CAT}
+use Rattle.gr_base.proofs.ListLemmas.{Each-at, Each-left, Each-right, Each-append, Each-map, IsAmong-slice_get}
 use Rattle.gr_terms.specs.declared.Sym.{Sym}
 use Rattle.mg_syntax.specs.declared.body.Side.{Side}
 use Rattle.mg_syntax.specs.declared.body.Side.TheVariants as side
 use Rattle.mg_syntax.specs.declared.body.Literal.{Literal}
-use Rattle.mg_syntax.specs.declared.body.Statement.{Statement, out-Statement, map-Statement, fold_out-Statement}
+use Rattle.mg_syntax.specs.declared.body.Statement.{Statement, out-Statement}
 use Rattle.mg_syntax.specs.declared.body.Statement.TheOpen as statement
 use Rattle.mg_syntax.specs.declared.body.Statement.TheOpen.{Statement-F}
 use Rattle.mg_syntax.specs.declared.block.SynItem.{SynItem}

@@ -15,8 +15,8 @@ use Rattle.mg_reader.specs.declared.lexeme.Kind.TheVariants as kind
 use Rattle.mg_reader.specs.declared.lexeme.Lexeme.{Lexeme}
 use Rattle.mg_reader.specs.Kinds.{kind_number, word_kind, words}
 use Rattle.mg_reader.specs.Spelling.{Is, IsA}
-use Rattle.mg_printer.proofs.Fitting.{IsReal, real_name, real_word}
-use Rattle.mg_printer.proofs.KindLists.{in_class, in_range, one_kind, table_back, texts_of}
+use Rattle.mg_reader.proofs.Real.{IsReal, real_name, real_word}
+use Rattle.mg_reader.proofs.KindLists.{in_class, in_range, one_kind, table_back, texts_of}
 use Rattle.td_canon.specs.CanonicalTexts.{text_in}
 use Rattle.td_canon.proofs.ValueLemmas.{text_in-names}
 use Rattle.tg_reader.specs.Writable.{IsMark, IsName, IsTable, IsWord}
@@ -35,7 +35,7 @@ module _ (texts : List (List ℕ)) where
   pub real_is_name : (l : Lexeme) → IsReal texts l → 25 ≤ kind_number l.kind → IsName (text l.name.0)
   real_is_name l r top =
       let n = real_name texts l r top in
-      subst IsName (sym (text_in-names texts l.name.0 n.text n.names)) (record { bytes = n.is.inside; few = n.is.short; utf8 = n.is.utf8 })
+      subst IsName (sym (text_in-names texts l.name.0 n.text n.names)) (record { bytes = n.inside; few = n.short; utf8 = n.utf8 })
 
   pub real_is_word : (l : Lexeme) → IsReal texts l → 26 ≤ kind_number l.kind → IsWord (text l.name.0)
   real_is_word l r top =

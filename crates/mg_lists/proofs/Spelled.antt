@@ -32,8 +32,8 @@ use Rattle.mg_reader.specs.declared.found.Features.{Features}
 use Rattle.mg_reader.specs.Kinds.{kind_number}
 use Rattle.mg_reader.specs.Values.{or_else, with_property, with_properties, no_properties, with_feature, with_features, no_features, category_pairs, node_with}
 use Rattle.mg_reader.specs.Spelling.{Rule, Separated, last_separated, separated, LooselySeparated, last_loosely, loosely, side_by_side, Row, last_in_row, in_row, Maybe, nothing, something, Enclosed, within, MaybeEnclosed, not_enclosed, enclosed, Behind, no_word, behind_word, Named, a_name, SpellsRef, a_ref, a_dotted_ref, SpellsMaybeRef, unnamed, named, SpellsSide, a_side_name, a_variable, SpellsPair, a_pair, SpellsBag, a_bag, SpellsArgs, SpellsLiteral, without_handle, with_handle, SpellsLiterals, SpellsProperty, a_colour, a_mark, a_property, SpellsFeature, a_category, a_top, a_bottom, SpellsDescent, a_child, a_descent, SpellsLoose, not_loose, is_loose, SpellsNode, a_node, SpellsKids, no_kid_list, empty_kid_list, a_kid_list, SpellsMoreKids, no_more_kids, one_more_kid, SpellsKid, a_kid, SpellsSynItem, a_block, a_relation, Dimension, a_dimension, SpellsCall, a_call, SpellsBody, empty_body, a_body, SpellsMoreAlternatives, no_more_alternatives, one_more_alternative, SpellsAlternative, an_alternative, SpellsMoreStatements, no_more_statements, one_more_statement, SpellsStatement, a_group, a_call_statement, a_binding, an_equation, a_syn, a_sem, an_iface, SpellsClass, a_class, SpellsDomain, any_value, these_values, SpellsArgument, a_flag, an_argument, SpellsHeader, a_domain, a_property_type, a_feature_type, a_principle, SpellsItem, a_class_item, a_value_item, a_header_item}
-use Rattle.mg_printer.proofs.Fitting.{IsReal}
-use Rattle.mg_printer.proofs.KindLists.{in_range}
+use Rattle.mg_reader.proofs.Real.{IsReal}
+use Rattle.mg_reader.proofs.KindLists.{in_range}
 use Rattle.mg_deeds.specs.Blocks.{KidBlock, Block, kids_of, kid_step, block_step, block_of}
 use Rattle.mg_expand.specs.Walks.{Task, a_call as calls, a_choice, a_deed, task_in, task_of}
 use Rattle.td_canon.specs.CanonicalTexts.{text_in}

@@ -12,8 +12,7 @@ use Rattle.mg_syntax.specs.declared.item.Class.{Class}
 use Rattle.mg_syntax.specs.declared.item.Item.{Item}
 use Rattle.mg_syntax.specs.declared.item.Item.TheVariants as item
 use Rattle.mg_reader.specs.Answers.{IsMetagrammar}
-use Rattle.mg_printer.proofs.Fitting.{reals}
-use Rattle.mg_printer.proofs.RoundTrip.{grown}
+use Rattle.mg_reader.proofs.Real.{reals, grown}
 use Rattle.mg_scope.specs.Classes.{class_of, exports_of, firsts}
 use Rattle.mg_scope.proofs.ClassLemmas.{class_of-stands}
 use Rattle.mg_deeds.specs.Sayings.{import_said, dot_said, deed_said}

@@ -26,8 +26,8 @@ use Rattle.mg_printer.specs.Pieces.{Piece, a_sign, a_key, enclosed}
 use Rattle.mg_printer.specs.Values.{pair_pieces}
 use Rattle.mg_printer.specs.Blocks.{relate_text, name_pieces, colour_parts, property_parts, category_pieces, category_parts, feature_parts, loose_pieces, down_pieces, braced, block_step, kid_step, block_pieces, kid_pieces, syn_item_pieces}
 use Rattle.mg_printer.proofs.Folds.{braced-map}
-use Rattle.mg_printer.proofs.KindLists.{in_class, one_kind, is_kind, same_class}
-use Rattle.mg_printer.proofs.Fitting.{IsReal}
+use Rattle.mg_reader.proofs.KindLists.{in_class, one_kind, is_kind, same_class}
+use Rattle.mg_reader.proofs.Real.{IsReal}
 use Rattle.mg_printer.proofs.Canons.{Canon, Then, One, Same, rest_real, canon_map, canon_pieces, canon_none, canon_then, canon_key, canon_enclosed, canon_no_brackets, braces}
 use Rattle.mg_printer.proofs.CanonLists.{AreCanon, IsPlainSign}
 use Rattle.mg_printer.proofs.CanonValues.{plain, canon_ref, canon_maybe_ref}

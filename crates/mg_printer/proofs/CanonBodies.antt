@@ -24,8 +24,8 @@ use Rattle.mg_printer.specs.Values.{bag_pieces, literal_pieces}
 use Rattle.mg_printer.specs.Blocks.{syn_item_pieces}
 use Rattle.mg_printer.specs.Bodies.{call_pieces, dimension_pieces, alternative_by, statement_pieces, body_pieces}
 use Rattle.mg_printer.proofs.Statements.{pieces-Group, pieces-Call, pieces-Bind, pieces-Equation, pieces-Syn, pieces-Sem, pieces-Iface}
-use Rattle.mg_printer.proofs.KindLists.{texts_of}
-use Rattle.mg_printer.proofs.Fitting.{IsReal}
+use Rattle.mg_reader.proofs.KindLists.{texts_of}
+use Rattle.mg_reader.proofs.Real.{IsReal}
 use Rattle.mg_printer.proofs.Canons.{Canon, Then, One, Same, rest_real, canon_map, canon_pieces, canon_none, canon_then, canon_key, canon_word, canon_variable, canon_enclosed, braces, square}
 use Rattle.mg_printer.proofs.CanonLists.{IsPlainSign, canon_separated, canon_maybe}
 use Rattle.mg_printer.proofs.CanonValues.{plain, equals, canon_ref, canon_side, canon_bag, canon_literals}

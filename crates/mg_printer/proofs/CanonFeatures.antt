@@ -16,7 +16,7 @@ use Rattle.mg_reader.specs.Spelling.{IsA, Separated, MaybeEnclosed, SpellsSide, 
 use Rattle.mg_printer.specs.Pieces.{Piece, a_sign, a_key, enclosed}
 use Rattle.mg_printer.specs.Values.{side_pieces, bag_pieces}
 use Rattle.mg_printer.specs.Blocks.{category_pieces, feature_parts}
-use Rattle.mg_printer.proofs.Fitting.{IsReal}
+use Rattle.mg_reader.proofs.Real.{IsReal}
 use Rattle.mg_printer.proofs.Canons.{Canon, Then, One, canon_map, canon_then, canon_key, square}
 use Rattle.mg_printer.proofs.CanonLists.{AreCanon}
 use Rattle.mg_printer.proofs.CanonValues.{plain, equals, comma, canon_side, canon_bag}

@@ -21,7 +21,7 @@ use Rattle.mg_reader.specs.Spelling.{Is, IsA, Rule, Separated, Row, last_in_row,
 use Rattle.mg_printer.specs.Pieces.{Piece, a_sign, a_key, separated}
 use Rattle.mg_printer.specs.Bodies.{call_pieces}
 use Rattle.mg_printer.specs.Items.{listed, variable_pieces, class_behind, name_pieces, domain_pieces, argument_pieces, typed_pieces, header_key, header_behind, item_pieces}
-use Rattle.mg_printer.proofs.Fitting.{IsReal}
+use Rattle.mg_reader.proofs.Real.{IsReal}
 use Rattle.mg_printer.proofs.Canons.{Canon, Then, One, Same, rest_real, canon_map, canon_pieces, canon_none, canon_then, canon_word, canon_variable, canon_name, canon_enclosed, braces, parens}
 use Rattle.mg_printer.proofs.CanonLists.{IsPlainSign, AreCanon, canon_separated, canon_row, canon_maybe}
 use Rattle.mg_printer.proofs.CanonValues.{plain, equals, comma, colon}

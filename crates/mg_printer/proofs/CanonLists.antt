@@ -10,8 +10,8 @@ use Rattle.mg_reader.specs.declared.lexeme.Lexeme.{Lexeme}
 use Rattle.mg_reader.specs.Kinds.{sign_kind, turn_of}
 use Rattle.mg_reader.specs.Spelling.{IsA, Rule, Separated, last_separated, separated, LooselySeparated, last_loosely, loosely, side_by_side, Row, last_in_row, in_row, Maybe, nothing, something}
 use Rattle.mg_printer.specs.Pieces.{Piece, a_sign, separated as written_separated}
-use Rattle.mg_printer.proofs.KindLists.{one_kind}
-use Rattle.mg_printer.proofs.Fitting.{IsReal}
+use Rattle.mg_reader.proofs.KindLists.{one_kind}
+use Rattle.mg_reader.proofs.Real.{IsReal}
 use Rattle.mg_printer.proofs.Canons.{Canon, Then, One, rest_real, canon_map, canon_pieces, canon_none, canon_then, canon_sign, canon_skip}
 
 -- the sign is one of the kind, and no bracket

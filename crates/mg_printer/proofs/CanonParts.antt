@@ -14,8 +14,9 @@ use Rattle.mg_reader.specs.Kinds.{turn, turn_of}
 use Rattle.mg_reader.specs.Spelling.{Rule, Separated, last_separated, separated, nothing, something, within, MaybeEnclosed, not_enclosed, enclosed}
 use Rattle.mg_printer.specs.Pieces.{Piece, a_sign, enclosed as written_enclosed}
 use Rattle.mg_printer.proofs.Covering.{AreLevel, Covers, level-append, level-enclosed, covers-nil, covers-append, covers-left, covers-right, covers-enclosed, covers-flat}
-use Rattle.mg_printer.proofs.KindLists.{one_kind, is_kind}
-use Rattle.mg_printer.proofs.Fitting.{IsReal, FitPieces, IsWritten}
+use Rattle.mg_reader.proofs.KindLists.{one_kind, is_kind}
+use Rattle.mg_reader.proofs.Real.{IsReal}
+use Rattle.mg_printer.proofs.Fitting.{FitPieces, IsWritten}
 use Rattle.mg_printer.proofs.Canons.{Canon, AreBrackets, turns, piece_turns, piece_turn, rest_real, fit_front, last_fit, bracketed, pieces_bracketed}
 use Rattle.mg_printer.proofs.CanonLists.{AreCanon, IsPlainSign}
 

@@ -27,8 +27,8 @@ use Rattle.mg_reader.specs.Spelling.{Is, IsA, Separated, last_separated, separat
 use Rattle.mg_printer.specs.Pieces.{Piece, a_sign, a_key, enclosed as written_enclosed}
 use Rattle.mg_printer.specs.Values.{pair_pieces}
 use Rattle.mg_printer.specs.Blocks.{paint_text, colour_parts, is_category, category_pieces, property_parts, category_parts}
-use Rattle.mg_printer.proofs.KindLists.{in_class, one_kind, is_kind, in_range, same_class}
-use Rattle.mg_printer.proofs.Fitting.{IsReal, real_word}
+use Rattle.mg_reader.proofs.KindLists.{in_class, one_kind, is_kind, in_range, same_class}
+use Rattle.mg_reader.proofs.Real.{IsReal, real_word}
 use Rattle.mg_printer.proofs.Canons.{Canon, Then, One, rest_real, canon_map, canon_then, canon_key, key_name, canon_word, canon_name_of, parens}
 use Rattle.mg_printer.proofs.CanonLists.{AreCanon}
 use Rattle.mg_printer.proofs.CanonValues.{plain, equals, comma, canon_side}

@@ -16,7 +16,7 @@ use Rattle.mg_reader.specs.Spelling.{Is, IsA, Separated, LooselySeparated, Spell
 use Rattle.mg_printer.specs.Pieces.{a_sign, separated}
 use Rattle.mg_printer.specs.Values.{ref_pieces, side_pieces, pair_pieces, bag_pieces, arguments_pieces, literal_pieces}
 use Rattle.mg_printer.specs.Blocks.{name_pieces}
-use Rattle.mg_printer.proofs.Fitting.{IsReal}
+use Rattle.mg_reader.proofs.Real.{IsReal}
 use Rattle.mg_printer.proofs.Canons.{Canon, Then, One, Same, rest_real, canon_map, canon_none, canon_then, canon_enclosed, canon_sign, canon_word, canon_variable, canon_name, parens, square}
 use Rattle.mg_printer.proofs.CanonLists.{IsPlainSign, AreCanon, canon_separated, canon_loosely, canon_maybe}
 

@@ -21,8 +21,9 @@ use Rattle.mg_reader.specs.Kinds.{kind_number, words, word_kind, sign_kind, low,
 use Rattle.mg_reader.specs.Spelling.{Is, IsA, Rule, Enclosed, within}
 use Rattle.mg_printer.specs.Pieces.{Piece, a_sign, a_key, a_word, a_name as name_piece, a_variable, text_of}
 use Rattle.mg_printer.proofs.Covering.{AreLevel, Covers, level-append, level-enclosed, covers-nil, covers-both, covers-right, covers-enclosed, covers-flat}
-use Rattle.mg_printer.proofs.KindLists.{one_kind, is_kind, flat_kind, in_range, same_class, texts_of, table_back}
-use Rattle.mg_printer.proofs.Fitting.{IsWordText, IsReal, FitsPiece, FitPieces, IsWritten, real_word, real_variable, real_name, word_class, name_kind_of}
+use Rattle.mg_reader.proofs.KindLists.{one_kind, is_kind, flat_kind, in_range, same_class, texts_of, table_back}
+use Rattle.mg_reader.proofs.Real.{IsWordText, IsReal, real_word, real_variable, real_name, word_class}
+use Rattle.mg_printer.proofs.Fitting.{FitsPiece, FitPieces, IsWritten, name_kind_of}
 
 -- what the lexemes and the pieces do to the brackets
 abbrev pub turns : List Lexeme → List Turn
@@ -262,7 +263,7 @@ module _ (texts : List (List ℕ)) where
   canon_name l real i =
       let r = in_range of.Name l i in
       let n = real_name texts l real r.0 in
-      canon_one texts (name_piece l.name.0) l (flat_kind l.kind (omega (arith, r.0)) r.1) refl (n.text, n.names, n.is) (λ j f. (name_class j (text_of texts l.name.0) f.0, same_sym j.name l.name f.1))
+      canon_one texts (name_piece l.name.0) l (flat_kind l.kind (omega (arith, r.0)) r.1) refl (n.text, n.names, record { inside = n.inside; short = n.short; utf8 = n.utf8 }) (λ j f. (name_class j (text_of texts l.name.0) f.0, same_sym j.name l.name f.1))
     where
       name_class : (j : Lexeme) (t : List ℕ) → j.kind ≡ name_kind_of t → Is of.Name j
       name_class j t e = ap (λ k. nat_le 25 (kind_number k) && nat_lt (kind_number k) 56) e ∙ by (is_word t)
@@ -278,5 +279,5 @@ module _ (texts : List (List ℕ)) where
       let n = real_name texts l real (omega (arith, r.0, most)) in
       let w = real_word texts l real (omega (arith, r.0, most)) in
       let kind_is : name_kind_of (text_of texts l.name.0) ≡ l.kind = ap name_kind_of (text_at l.name.0 w.text w.names) ∙ (ap (λ b. cond b (word_kind w.text) kind.Str) w.is.word ∙ sym w.kind_is) in
-      canon_one texts (name_piece l.name.0) l (flat_kind l.kind (omega (arith, r.0, most)) (omega (arith, r.1, few))) refl (n.text, n.names, n.is)
+      canon_one texts (name_piece l.name.0) l (flat_kind l.kind (omega (arith, r.0, most)) (omega (arith, r.1, few))) refl (n.text, n.names, record { inside = n.inside; short = n.short; utf8 = n.utf8 })
       (λ j f. (same_class c l j (f.0 ∙ kind_is) i, same_sym j.name l.name f.1))

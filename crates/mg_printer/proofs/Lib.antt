@@ -5,7 +5,6 @@ pub mod Statements
 pub mod Measures
 pub mod Lines
 pub mod Covering
-pub mod KindLists
 pub mod Fitting
 pub mod Canons
 pub mod CanonLists

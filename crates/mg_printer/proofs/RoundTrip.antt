@@ -37,8 +37,9 @@ use Rattle.mg_printer.specs.Pieces.{Piece, a_sign, a_key, a_word, a_name, a_vari
 use Rattle.mg_printer.specs.Items.{item_pieces}
 use Rattle.mg_printer.specs.Printing.{canonical, spelling}
 use Rattle.mg_printer.proofs.Covering.{Fits}
-use Rattle.mg_printer.proofs.Fitting.{IsWritten, FitsPiece, FitPieces, Has, reals, word_class}
-use Rattle.mg_printer.proofs.KindLists.{flat_kind}
+use Rattle.mg_reader.proofs.Real.{grown, Has, reals, word_class}
+use Rattle.mg_printer.proofs.Fitting.{IsWritten, FitsPiece, FitPieces}
+use Rattle.mg_reader.proofs.KindLists.{flat_kind}
 use Rattle.mg_printer.proofs.Canons.{turns, piece_turn, piece_turns, Canon}
 use Rattle.mg_printer.proofs.CanonItems.{canon_items}
 
@@ -50,10 +51,6 @@ fits_turns limit d (l ∷ ls) h = (h.0, fits_turns limit (depth d (turn l)) ls h
 turns_fit : (limit d : ℕ) (ls : List Lexeme) → Fits limit d (turns ls) → IsShallow turn limit d ls
 turns_fit limit d [] h = tt
 turns_fit limit d (l ∷ ls) h = (h.0, turns_fit limit (depth d (turn l)) ls h.1)
-
--- a table that grows has its old texts
-pub grown : (texts later : List (List ℕ)) → Grows texts later → Has later texts
-grown texts later (more, e) n t h = subst (λ z. Names z n t) (sym e) (slice_get-append_left texts more n t h)
 
 -- a text of bytes below 128 is UTF-8
 all_low : List ℕ → Bool

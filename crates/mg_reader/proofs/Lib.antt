@@ -11,3 +11,5 @@ mod OneRight
 pub mod SomeAnswer
 mod Tables
 pub mod Named
+pub mod KindLists
+pub mod Real

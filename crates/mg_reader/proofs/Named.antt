@@ -1,6 +1,6 @@
 -- The names of a metagrammar are the names of its lexemes, and the number of the category.
-use Rattle.std.specs.Prelude.{◌≡◌, ℕ, ◌+◌, ◌<◌, List, [], ◌∷◌, ◌++◌, length, Option, Some, None, unwrap_or, Bool, true, false}
-use Rattle.std.proofs.Common.{subst, sym, ap, arith, refl}
+use Rattle.std.specs.Prelude.{ℕ, ◌<◌, List, [], ◌∷◌, ◌++◌, length, Option, Some, None, unwrap_or, Bool, false}
+use Rattle.std.proofs.Common.{subst, sym, ap, arith}
 use Rattle.std.proofs.lemmas.List.{length-append}
 use Rattle.gr_base.specs.Lists.{Each, gathered}
 use Rattle.gr_base.proofs.ListLemmas.{Each-left, Each-right, Each-append}
@@ -13,16 +13,10 @@ use Rattle.gr_tokens.specs.declared.Kind.TheVariants.{Word, Str, Var, Punct}
 use Rattle.gr_tokens.specs.declared.Token.{Token}
 use Rattle.mg_syntax.specs.declared.body.Ref.{Ref}
 use Rattle.mg_syntax.specs.declared.body.Side.{Side}
-use Rattle.mg_syntax.specs.declared.body.Literal.{Literal}
-use Rattle.mg_syntax.specs.declared.body.Statement.{Statement}
 use Rattle.mg_syntax.specs.declared.body.Statement.TheVariants as statement
 use Rattle.mg_syntax.specs.declared.body.Statement.TheOpen as layer
 use Rattle.mg_syntax.specs.declared.block.Relate.{Relate}
-use Rattle.mg_syntax.specs.declared.block.NodeBlock.{NodeBlock}
 use Rattle.mg_syntax.specs.declared.block.Kid.{Kid}
-use Rattle.mg_syntax.specs.declared.block.SynItem.{SynItem}
-use Rattle.mg_syntax.specs.declared.item.Class.{Class}
-use Rattle.mg_syntax.specs.declared.item.Header.{Header}
 use Rattle.mg_syntax.specs.declared.item.Item.{Item}
 use Rattle.mg_syntax.specs.Names.{if_some, one_name, ref_names, side_names, pair_names, bag_names, literal_names, block_names, kid_names, syn_item_names, statement_names, body_names, class_names, argument_names, header_names, item_names, all_names, HasTexts}
 use Rattle.mg_syntax.proofs.Names.{block_names-roll, kid_names-roll, statement_names-roll}

@@ -1,4 +1,3 @@
-use Rattle.std.specs.Prelude.{ℕ, List, Bool, ◌⊎◌}
 use Rattle.std.proofs.Common.{inl, inr}
 use Rattle.mg_compile.proofs.Existing.{class_fault, right_list}
 use Rattle.mg_compile.proofs.laws.each_class_has_an_answer.Goals as goal

@@ -1,11 +1,26 @@
 -- Lemmas on forests: side by side, and alike.
-use Rattle.std.specs.Prelude.{◌≡◌, suc, ◌+◌, ◌∷◌, ◌++◌, length, refl}
+use Rattle.std.specs.Prelude.{◌≡◌, suc, ◌+◌, ◌∷◌, ◌++◌, map, length, refl}
 use Rattle.std.proofs.Common.{ap, ap₂, sym, ◌∙◌, arith, append_assoc, length-append}
-use Rattle.gr_base.specs.Forests.{Forest, empty, tree, IsOneTree, labels, beside, size, AreAlike}
+use Rattle.std.proofs.lemmas.List.{map-append}
+use Rattle.gr_base.specs.Forests.{Forest, empty, tree, IsOneTree, labels, beside, map_forest, size, AreAlike}
 
 pub length-labels : {A : Type 0} (f : Forest A) → length (labels f) ≡ size f
 length-labels empty = refl
 length-labels (tree a kids more) = ap suc (length-append (labels kids) (labels more) ∙ ap₂ (λ m n. m + n) (length-labels kids) (length-labels more))
+
+-- forests with other labels
+pub labels-map : {A B : Type 0} (f : A → B) (g : Forest A) → labels (map_forest f g) ≡ map f (labels g)
+labels-map f empty = refl
+labels-map f (tree a kids more) = ap (λ ls. f a ∷ ls) (ap₂ (λ xs ys. xs ++ ys) (labels-map f kids) (labels-map f more) ∙ sym (map-append f (labels kids) (labels more)))
+
+pub size-map : {A B : Type 0} (f : A → B) (g : Forest A) → size (map_forest f g) ≡ size g
+size-map f empty = refl
+size-map f (tree a kids more) = ap₂ (λ m n. suc (m + n)) (size-map f kids) (size-map f more)
+
+pub one_tree-map : {A B : Type 0} (f : A → B) (g : Forest A) → IsOneTree g → IsOneTree (map_forest f g)
+one_tree-map f empty one = one
+one_tree-map f (tree a kids empty) one = one
+one_tree-map f (tree a kids (tree b others more)) one = one
 
 -- forests side by side
 pub beside_assoc : {A : Type 0} (f g h : Forest A) → beside (beside f g) h ≡ beside f (beside g h)

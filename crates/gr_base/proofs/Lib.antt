@@ -4,3 +4,8 @@ pub mod Counting
 pub mod OrderedPairs
 pub mod RisingKeys
 pub mod Deciding
+pub mod Booleans
+pub mod Gathering
+pub mod Zips
+pub mod Numbers
+pub mod Results

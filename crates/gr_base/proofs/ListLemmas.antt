@@ -1,14 +1,14 @@
 -- Lemmas on lists: members, what holds of each, places, repetition, and tests.
-use Rattle.std.specs.Prelude.{◌≡◌, ℕ, zero, suc, ◌+◌, ◌<◌, List, [], ◌∷◌, ◌++◌, map, length, take, drop, Bool, true, false, not, ◌&&◌, ◌||◌, Some, position, slice_get, ◌⊎◌, ◌↔◌, refl}
+use Rattle.std.specs.Prelude.{◌≡◌, ℕ, zero, suc, ◌+◌, ◌<◌, ◌≤◌, List, [], ◌∷◌, ◌++◌, map, length, take, drop, Bool, true, false, not, ◌&&◌, ◌||◌, None, Some, position, slice_get, ◌⊎◌, ◌↔◌, refl}
 use Rattle.std.specs.Bool.{Decides}
 use Rattle.std.specs.List.{list_any, join_with_byte}
 use Rattle.std.specs.Option.{option_map}
 use Rattle.std.proofs.Common.{inl, inr, ap, sym, ◌∙◌, subst, get_or, append_assoc, arith}
 use Rattle.std.proofs.Math.Seq.{drop-nil, drop-append_seam}
-use Rattle.std.proofs.lemmas.Bool.{false≢true}
-use Rattle.std.proofs.lemmas.List.{length_push}
+use Rattle.std.proofs.lemmas.Bool.{false≢true, or_right}
+use Rattle.std.proofs.lemmas.List.{length_push, take_all, take_more, take-append-drop}
 use Rattle.std.proofs.lemmas.List.Quantifiers.{position-Some}
-use Rattle.std.proofs.lemmas.Option.{none-some, same_Some, slice_get-map, slice_get-get_or}
+use Rattle.std.proofs.lemmas.Option.{none-some, same_Some, slice_get-map, slice_get-get_or, slice_get_within, get_or_from_slice_get}
 use Rattle.gr_base.specs.Lists.{IsAmong, IsWithin, NoneTwice, Each, joined, gathered}
 
 -- two equal lists with a first element have the same one, and the same rest
@@ -30,6 +30,25 @@ pub IsAmong-append : {A : Type 0} (xs ys : List A) (x : A) → IsAmong (xs ++ ys
 IsAmong-append [] ys x i = inr i
 IsAmong-append (z ∷ xs) ys x (inl e) = inl (inl e)
 IsAmong-append (z ∷ xs) ys x (inr j) = elim (IsAmong-append xs ys x j) [ inl k ↦ inl (inr k) | inr k ↦ inr k ]
+
+pub IsWithin-take : {A : Type 0} (n : ℕ) (xs : List A) → IsWithin (take n xs) xs
+IsWithin-take n xs x i = subst (λ z. IsAmong z x) (take-append-drop n xs) (IsAmong-append_left (take n xs) (drop n xs) x i)
+
+-- an element is not behind no elements, and where two lists together are empty, or a mapped list is, each list is
+pub cons-not_nil : {A : Type 0} (x : A) (xs : List A) → x ∷ xs ≡ [] → ⊥
+cons-not_nil x xs e = cc
+
+pub append-nil_left : {A : Type 0} (xs ys : List A) → xs ++ ys ≡ [] → xs ≡ []
+append-nil_left [] ys e = refl
+append-nil_left (x ∷ xs) ys e = absurd (cons-not_nil x (xs ++ ys) e)
+
+pub append-nil_right : {A : Type 0} (xs ys : List A) → xs ++ ys ≡ [] → ys ≡ []
+append-nil_right [] ys e = e
+append-nil_right (x ∷ xs) ys e = absurd (cons-not_nil x (xs ++ ys) e)
+
+pub map-nil : {A B : Type 0} (f : A → B) (xs : List A) → map f xs ≡ [] → xs ≡ []
+map-nil f [] e = refl
+map-nil f (x ∷ xs) e = absurd (cons-not_nil (f x) (map f xs) e)
 
 pub IsAmong-map : {A B : Type 0} (f : A → B) (xs : List A) (x : A) → IsAmong xs x → IsAmong (map f xs) (f x)
 IsAmong-map f [] x i = i
@@ -99,6 +118,19 @@ pub Each-append : {A : Type 0} (P : A → Type 0) (xs ys : List A) → Each P xs
 Each-append P [] ys a b = b
 Each-append P (x ∷ xs) ys a b = (a.0, Each-append P xs ys a.1 b)
 
+-- what holds of each element of the first so many that are all
+pub Each-whole : {A : Type 0} (P : A → Type 0) (xs : List A) (n : ℕ) → length xs ≤ n → Each P (take n xs) → Each P xs
+Each-whole P xs n all each = subst (Each P) (take_all n xs all) each
+
+-- what holds of each element, weakened, and of two facts of each
+pub Each-weaker : {A : Type 0} (P Q : A → Type 0) → ((x : A) → P x → Q x) → (xs : List A) → Each P xs → Each Q xs
+Each-weaker P Q f [] h = tt
+Each-weaker P Q f (x ∷ xs) h = (f x h.0, Each-weaker P Q f xs h.1)
+
+pub Each-both : {A : Type 0} (P Q R : A → Type 0) → ((x : A) → P x → Q x → R x) → (xs : List A) → Each P xs → Each Q xs → Each R xs
+Each-both P Q R f [] h k = tt
+Each-both P Q R f (x ∷ xs) h k = (f x h.0 k.0, Each-both P Q R f xs h.1 k.1)
+
 -- what holds of each element of a list and of x holds of each with x at some place
 pub Each-middle : {A : Type 0} (P : A → Type 0) (front back : List A) (x : A) → Each P (front ++ back) → P x → Each P (front ++ x ∷ back)
 Each-middle P [] back x each here = (here, each)
@@ -148,6 +180,36 @@ pub slice_get-append_left : {A : Type 0} (xs ys : List A) (i : ℕ) (x : A) → 
 slice_get-append_left [] ys i x at = absurd (none-some x at)
 slice_get-append_left (z ∷ xs) ys zero x at = at
 slice_get-append_left (z ∷ xs) ys (suc i) x at = slice_get-append_left xs ys i x at
+
+-- and the part that it grows by has its places behind those of the list
+pub slice_get-append_right : {A : Type 0} (xs ys : List A) (i : ℕ) → slice_get (xs ++ ys) (length xs + i) ≡ slice_get ys i
+slice_get-append_right [] ys i = let e : 0 + i ≡ i = omega arith in ap (slice_get ys) e
+slice_get-append_right (x ∷ xs) ys i =
+    let e : suc (length xs) + i ≡ suc (length xs + i) = omega arith in ap (slice_get (x ∷ xs ++ ys)) e ∙ slice_get-append_right xs ys i
+
+-- what stands in a list with one more at the end
+pub slice_get-push_cases : {A : Type 0} (xs : List A) (y : A) (i : ℕ) (x : A) → slice_get (xs ++ y ∷ []) i ≡ Some x → (slice_get xs i ≡ Some x) ⊎ ((i ≡ length xs) × (x ≡ y))
+slice_get-push_cases [] y zero x at = inr (refl, sym (same_Some y x at))
+slice_get-push_cases [] y (suc i) x at = absurd (none-some x at)
+slice_get-push_cases (z ∷ xs) y zero x at = inl at
+slice_get-push_cases (z ∷ xs) y (suc i) x at = elim (slice_get-push_cases xs y i x at) [ inl h ↦ inl h | inr h ↦ inr (ap suc h.0, h.1) ]
+
+-- an element stands at each place of the list
+pub slice_get-some : {A : Type 0} (xs : List A) (i : ℕ) → i < length xs → (x : A) × (slice_get xs i ≡ Some x)
+slice_get-some [] i within = absurd (omega arith)
+slice_get-some (x ∷ xs) zero within = (x, refl)
+slice_get-some (x ∷ xs) (suc i) within = slice_get-some xs i (omega arith)
+
+pub slice_get-not_none : {A : Type 0} (xs : List A) (i : ℕ) → i < length xs → slice_get xs i ≡ None → ⊥
+slice_get-not_none xs i within none = let r = slice_get-some xs i within in none-some r.0 (sym none ∙ r.1)
+
+-- in a mapped list stands f of what stands in the list
+pub slice_get-mapped : {A B : Type 0} (f : A → B) (xs : List A) (i : ℕ) (x : A) → slice_get xs i ≡ Some x → slice_get (map f xs) i ≡ Some (f x)
+slice_get-mapped f xs i x at = slice_get-map f xs i ∙ ap (option_map f) at
+
+-- the elements before a place, with the one that stands there
+pub take-one_more : {A : Type 0} (xs : List A) (i : ℕ) (x : A) → slice_get xs i ≡ Some x → take (i + 1) xs ≡ take i xs ++ x ∷ []
+take-one_more xs i x at = take_more xs i x (slice_get_within xs i x at) ∙ ap (λ y. take i xs ++ y ∷ []) (get_or_from_slice_get xs i x x at)
 
 -- what stands from a place on begins with what stands there
 pub drop-slice_get : {A : Type 0} (xs : List A) (i : ℕ) (x : A) → slice_get xs i ≡ Some x → drop i xs ≡ x ∷ drop (suc i) xs
@@ -204,6 +266,12 @@ NoneTwice-push (y ∷ ys) x once new =
     λ i. elim (IsAmong-append ys (x ∷ []) y i) [ inl j ↦ once.0 j | inr j ↦ elim j [ inl e ↦ new (inl (sym e)) | inr k ↦ k ] ]
     in (apart, NoneTwice-push ys x once.1 (λ i. new (inr i)))
 
+-- two lists without repetition that share no element, one behind the other
+pub NoneTwice-append : {A : Type 0} (xs ys : List A) → NoneTwice xs → NoneTwice ys → ((x : A) → IsAmong xs x → IsAmong ys x → ⊥) → NoneTwice (xs ++ ys)
+NoneTwice-append [] ys a b apart = b
+NoneTwice-append (x ∷ xs) ys a b apart =
+    ((λ i. elim (IsAmong-append xs ys x i) [ inl j ↦ a.0 j | inr j ↦ apart x (inl refl) j ]), NoneTwice-append xs ys a.1 b (λ y i j. apart y (inr i) j))
+
 -- an element that stands before its own place stands twice
 pub NoneTwice-again : {A : Type 0} (xs : List A) (x : A) (ys : List A) → NoneTwice (xs ++ x ∷ ys) → IsAmong xs x → ⊥
 NoneTwice-again [] x ys once i = i
@@ -227,11 +295,7 @@ NoneTwice-map_take f (x ∷ xs) (suc i) d within once (inr j) = NoneTwice-map_ta
 pub list_any-IsAmong : {A : Type 0} (test : A → Bool) (xs : List A) (x : A) → IsAmong xs x → test x ≡ true → list_any test xs ≡ true
 list_any-IsAmong test [] x i p = absurd i
 list_any-IsAmong test (y ∷ ys) x (inl e) p = ap (λ b. b || list_any test ys) (ap test (sym e) ∙ p)
-list_any-IsAmong test (y ∷ ys) x (inr i) p = or_true (test y) (list_any test ys) (list_any-IsAmong test ys x i p)
-  where
-    or_true : (b c : Bool) → c ≡ true → (b || c) ≡ true
-    or_true true c h = refl
-    or_true false c h = h
+list_any-IsAmong test (y ∷ ys) x (inr i) p = or_right (test y) (list_any test ys) (list_any-IsAmong test ys x i p)
 
 pub IsAmong-list_any : {A : Type 0} (test : A → Bool) (xs : List A) → list_any test xs ≡ true → (x : A) × IsAmong xs x × (test x ≡ true)
 IsAmong-list_any test [] h = absurd (false≢true h)

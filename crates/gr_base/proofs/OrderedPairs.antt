@@ -11,6 +11,7 @@ use Rattle.std.proofs.lemmas.List.{map-id}
 use Rattle.std.proofs.lemmas.List.Sorted.{sorted_far, Contains-permutation, length_permutation}
 use Rattle.gr_base.specs.Lists.{IsAmong, IsWithin, NoneTwice, Each, IsBefore, InByteOrder}
 use Rattle.gr_base.proofs.ListLemmas.{IsAmong-append, IsAmong-append_left, IsAmong-append_right, IsAmong-map, Each-at}
+use Rattle.gr_base.proofs.Numbers.{less_same_more}
 use Rattle.gr_base.proofs.Counting.{length-within, IsBefore-irreflexive, IsBefore-trans}
 
 -- of two texts one stands before the other, or they are equal
@@ -18,14 +19,8 @@ pub IsBefore-total : (xs ys : List ℕ) → IsBefore xs ys ⊎ ((xs ≡ ys) ⊎ 
 IsBefore-total [] [] = inr (inl refl)
 IsBefore-total [] (y ∷ ys) = inl tt
 IsBefore-total (x ∷ xs) [] = inr (inr tt)
-IsBefore-total (x ∷ xs) (y ∷ ys) = by_first x y xs ys (three x y) (IsBefore-total xs ys)
+IsBefore-total (x ∷ xs) (y ∷ ys) = by_first x y xs ys (less_same_more x y) (IsBefore-total xs ys)
   where
-    three : (x y : ℕ) → (x < y) ⊎ ((x ≡ y) ⊎ (y < x))
-    three zero zero = inr (inl refl)
-    three zero (suc y) = inl (omega arith)
-    three (suc x) zero = inr (inr (omega arith))
-    three (suc x) (suc y) = elim (three x y) [ inl h ↦ inl (omega arith) | inr (inl e) ↦ inr (inl (ap suc e)) | inr (inr h) ↦ inr (inr (omega arith)) ]
-
     by_first : (x y : ℕ) (xs ys : List ℕ) → (x < y) ⊎ ((x ≡ y) ⊎ (y < x)) → IsBefore xs ys ⊎ ((xs ≡ ys) ⊎ IsBefore ys xs) → IsBefore (x ∷ xs) (y ∷ ys) ⊎ ((x ∷ xs ≡ y ∷ ys) ⊎ IsBefore (y ∷ ys) (x ∷ xs))
     by_first x y xs ys (inl h) rest = inl (inl h)
     by_first x y xs ys (inr (inr h)) rest = inr (inr (inl h))

@@ -2,6 +2,7 @@
 use Rattle.std.proofs.Common.{◌≡◌, ℕ, ◌<◌, ◌≤◌, List, [], ◌∷◌, length, Bool, true, false, refl, sym, ◌∙◌, inl, inr, arith}
 use Rattle.std.specs.Prelude.{◌||◌, nat_lt}
 use Rattle.std.proofs.lemmas.Bool.{true≢false, eqb-true, ltb-true, cases_lt}
+use Rattle.gr_base.proofs.Booleans.{or_false}
 use Rattle.gr_grammar.specs.declared.balanced.Class.{Class}
 use Rattle.gr_grammar.specs.declared.balanced.Class.TheVariants.{Letter, Opening, Closing}
 use Rattle.gr_grammar.specs.Grammars.{Grammar, star, Matches, a_token, both, the_left, the_right, no_more, one_more, by_part, IsSystem, nullable, begins, Runs, took, run_end, run_more, run_both, tree_of, Rounds, start, round}
@@ -57,10 +58,6 @@ rounds_have (round r b m) = rounds_have r || item_has (tree_of m)
 or_assoc : (a b c : Bool) → (a || (b || c)) ≡ ((a || b) || c)
 or_assoc true b c = refl
 or_assoc false b c = refl
-
-or_false : (a : Bool) → (a || false) ≡ a
-or_false true = refl
-or_false false = refl
 
 close-has : {ts mid rest : List ℕ} (r : Rounds system item ts mid) (m : Runs system (star item) mid (took rest)) → row_has (tree_of (close r m)) ≡ (rounds_have r || row_has (tree_of m))
 unfolding close

@@ -7,7 +7,7 @@ use Rattle.gr_grammar.specs.declared.brackets.Turn.TheVariants.{Opens, Closes, N
 use Rattle.gr_grammar.specs.Depths.{depth, HasRoom, IsShallow, IsTooDeep, IsCut, has_room, suc_if, shallow_len}
 use Rattle.gr_grammar.proofs.Fronts.{head_of}
 
-is_room : (limit n : ℕ) (x : Turn) → has_room limit n x ≡ true → HasRoom limit n x
+pub is_room : (limit n : ℕ) (x : Turn) → has_room limit n x ≡ true → HasRoom limit n x
 is_room limit n Opens h = ltb-true n limit h
 is_room limit n Closes h = tt
 is_room limit n Neither h = tt

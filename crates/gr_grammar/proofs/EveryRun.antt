@@ -1,27 +1,12 @@
 -- Each list of tokens has a run of a clear grammar.
 use Rattle.std.proofs.Common.{◌≡◌, ℕ, zero, suc, ◌<◌, ◌≤◌, List, [], ◌∷◌, length, Bool, true, false, refl, ap, sym, ◌∙◌, ◌⊎◌, inl, inr, subst, arith, length-append}
 use Rattle.std.specs.Prelude.{◌||◌, ◌&&◌, not, ⊤}
-use Rattle.std.proofs.lemmas.Bool.{true≢false, cases_lt}
+use Rattle.std.proofs.lemmas.Bool.{true≢false, cases_lt, cases_Bool, or_parts, false_from_ne_true}
+use Rattle.gr_base.proofs.Booleans.{or_false_is}
 use Rattle.gr_grammar.specs.Grammars.{Grammar, tok, seq, alt, part, System, IsSystem, Matches, a_token, no_token, both, the_left, the_right, no_more, one_more, by_part, nullable, first, goes, when, is_of, all_apart, is_clear, is_next, begins, End, took, failed, Runs, take_token, bad_token, bad_end, take_nothing, run_both, run_first, run_left, run_right, run_end, run_more, run_part, tree_of}
 use Rattle.gr_grammar.proofs.Fronts.{and_left, and_right, not_true, both_ways, head_of, is_of-left, is_of-right, is_of-cases, is_of-when, not_moved, no_longer, apart_all, null_of, begins_of}
 use Rattle.gr_grammar.proofs.Exact.{other_way, is_clear_again, some_text, has_nothing, begun}
-use Rattle.gr_grammar.proofs.Runs.{is_false, narrow, starts}
-
-decide : (b : Bool) → (b ≡ true) ⊎ (b ≡ false)
-decide true = inl refl
-decide false = inr refl
-
-or_no : (b : Bool) → (b || false) ≡ false → b ≡ false
-or_no true h = h
-or_no false h = refl
-
-or_none_left : (a b : Bool) → (a || b) ≡ false → a ≡ false
-or_none_left true b h = h
-or_none_left false b h = refl
-
-or_none_right : (a b : Bool) → (a || b) ≡ false → b ≡ false
-or_none_right true b h = absurd (true≢false h)
-or_none_right false b h = h
+use Rattle.gr_grammar.proofs.Runs.{narrow, starts}
 
 and_no : (a b : Bool) → a ≡ true → (a && b) ≡ false → b ≡ false
 and_no true b e h = h
@@ -113,10 +98,10 @@ module _ {C T : Type 0} (S : System C T) (K : IsSystem S) where
 
   fails : (c : C) (us : List T) → begins S (tok c) us ≡ false → Runs S (tok c) us (failed us)
   fails c [] b = bad_end
-  fails c (t ∷ w) b = bad_token (or_no (S.test c t) b)
+  fails c (t ∷ w) b = bad_token (or_false_is (S.test c t) b)
 
   stuck_seq : (g h : Grammar C) → is_clear S (seq g h) ≡ true → (us : List T) → begins S (seq g h) us ≡ false → (nullable S g ≡ false → Runs S g us (failed us)) → (nullable S g ≡ true → Runs S h us (failed us)) → Runs S (seq g h) us (failed us)
-  stuck_seq g h c us b f k = elim (decide (nullable S g)) [
+  stuck_seq g h c us b f k = elim (cases_Bool (nullable S g)) [
     | inl n ↦ run_both (nothing_run (clear_first g h c) (has_nothing S K g n us) (omega arith) us (begins_left g h us b)) (k n)
     | inr n ↦ run_first (f n)
   ]
@@ -132,7 +117,7 @@ module _ {C T : Type 0} (S : System C T) (K : IsSystem S) where
 
   stuck_alt : (g h : Grammar C) (n : ℕ) → ((k : ℕ) → suc k ≤ n → Stuck k) → is_clear S (alt g h) ≡ true → length (first S (alt g h)) ≤ n → nullable S (alt g h) ≡ false → (us : List T) → begins S (alt g h) us ≡ false → Runs S (alt g h) us (failed us)
   stuck_alt g h n less c l e us b =
-      run_right (begins_way g h us b) (less (length (first S h)) (other_less g h n (or_none_left (nullable S g) (nullable S h) e) l) h (clear_right g h c) (omega arith) (or_none_right (nullable S g) (nullable S h) e) us (begins_other g h us b))
+      run_right (begins_way g h us b) (less (length (first S h)) (other_less g h n (or_parts (nullable S g) (nullable S h) e).0 l) h (clear_right g h c) (omega arith) (or_parts (nullable S g) (nullable S h) e).1 us (begins_other g h us b))
 
   stuck_by : (n : ℕ) → ((k : ℕ) → suc k ≤ n → Stuck k) → {g : Grammar C} {ts rest : List T} → is_clear S g ≡ true → Matches S g ts rest → length (first S g) ≤ n → nullable S g ≡ false → (us : List T) → begins S g us ≡ false → Runs S g us (failed us)
   stuck_by n less c (a_token {c = d} h) l e us b = fails d us b
@@ -179,7 +164,7 @@ module _ {C T : Type 0} (S : System C T) (K : IsSystem S) where
   -- where the first part takes nothing of the guide, it takes nothing of the tokens
   quiet_first : (g h : Grammar C) → is_clear S (seq g h) ≡ true → {ts mid rest : List T} → Matches S g ts mid → length ts ≤ length mid → Matches S h mid rest → length rest < length mid → (t : T) (w xs : List T) → mid ≡ t ∷ xs → begins S g (t ∷ w) ≡ false
   quiet_first g h c {mid = mid} x k y l t w xs e =
-      is_false S (begins S g (t ∷ w)) (λ i. apart_all S K (goes S g) (first S h) t (parts_apart g h c) (null_goes (clear_first g h c) x k t i) (begins_here h t w xs mid e (begins_of S K y l)))
+      false_from_ne_true (begins S g (t ∷ w)) (λ i. apart_all S K (goes S g) (first S h) t (parts_apart g h c) (null_goes (clear_first g h c) x k t i) (begins_here h t w xs mid e (begins_of S K y l)))
 
   live : (t : T) (w : List T) → ((h : Grammar C) → is_clear S h ≡ true → (us : List T) → length us ≤ length w → Some h us) → {g : Grammar C} {ts rest : List T} → is_clear S g ≡ true → Matches S g ts rest → (xs : List T) → ts ≡ t ∷ xs → length rest < length ts → Live g t w
   live t w rec c (a_token {c = d} {t = u} h) xs e l = record { end = took w; run = take_token (subst (λ z. S.test d z ≡ true) (ap (head_of u) e) h); less = omega arith }
@@ -199,7 +184,7 @@ module _ {C T : Type 0} (S : System C T) (K : IsSystem S) where
       let p = live t w rec (clear_right g h c) x xs e l in
       record {
         end = p.end;
-        run = run_right (is_false S (begins S g (t ∷ w)) (λ i. other_way S K g h (ways_apart g h c) (t ∷ w) i (begins_here h t w xs ts e (begins_of S K x l)))) p.run;
+        run = run_right (false_from_ne_true (begins S g (t ∷ w)) (λ i. other_way S K g h (ways_apart g h c) (t ∷ w) i (begins_here h t w xs ts e (begins_of S K x l)))) p.run;
         less = p.less;
       }
   live t w rec c no_more xs e l = absurd (omega arith)
@@ -208,7 +193,7 @@ module _ {C T : Type 0} (S : System C T) (K : IsSystem S) where
   live t w rec c (by_part {n} x) xs e l = let p = live t w rec (K.clear n) x xs e l in record { end = p.end; run = run_part p.run; less = p.less }
 
   quiet : (g : Grammar C) → is_clear S g ≡ true → (us : List T) → begins S g us ≡ false → Some g us
-  quiet g c us b = elim (decide (nullable S g)) [
+  quiet g c us b = elim (cases_Bool (nullable S g)) [
     | inl n ↦ record { end = took us; run = nothing_run c (has_nothing S K g n us) (omega arith) us b }
     | inr n ↦ record { end = failed us; run = all_below (suc (length (first S g))) (length (first S g)) (omega arith) g c (omega arith) n us b }
   ]
@@ -216,7 +201,7 @@ module _ {C T : Type 0} (S : System C T) (K : IsSystem S) where
   every : (n : ℕ) (g : Grammar C) → is_clear S g ≡ true → (us : List T) → length us ≤ n → Some g us
   every n g c [] l = quiet g c [] refl
   every zero g c (t ∷ w) l = absurd (omega arith)
-  every (suc n) g c (t ∷ w) l = elim (decide (is_of S (first S g) t)) [
+  every (suc n) g c (t ∷ w) l = elim (cases_Bool (is_of S (first S g) t)) [
     | inl i ↦
         let m = begun S K g t i in
         let p = live t w (λ h d us k. every n h d us (omega arith)) c m.1 m.0 refl (omega arith) in

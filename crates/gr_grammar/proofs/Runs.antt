@@ -1,7 +1,7 @@
 -- Tokens have one run, and a text has one that takes it.
 use Rattle.std.proofs.Common.{◌≡◌, List, [], ◌∷◌, length, Bool, true, false, refl, ap, sym, inl, inr, subst}
 use Rattle.std.specs.Prelude.{not, ⊤}
-use Rattle.std.proofs.lemmas.Bool.{cases_lt}
+use Rattle.std.proofs.lemmas.Bool.{cases_lt, false_from_ne_true}
 use Rattle.gr_grammar.specs.Grammars.{Grammar, seq, alt, star, System, IsSystem, Matches, a_token, no_token, both, the_left, the_right, no_more, one_more, by_part, nullable, first, goes, is_of, all_apart, is_clear, is_next, begins, End, took, failed, Runs, take_token, bad_token, bad_end, take_nothing, run_both, run_first, run_left, run_right, run_end, run_more, run_part}
 use Rattle.gr_grammar.proofs.Fronts.{and_left, and_right, not_true, both_ways, is_of-left, is_of-right, is_of-when, not_moved, apart_all, null_of, begins_of}
 use Rattle.gr_grammar.proofs.Exact.{moves, other_way, is_clear_again, star_goes}
@@ -14,8 +14,15 @@ abbrev IsTook : {T : Type 0} → End T → Type 0
 IsTook (took rest) = ⊤
 IsTook (failed rest) = ⊥
 
-took≢failed : {T : Type 0} (r s : List T) → took r ≡ failed s → ⊥
+pub took≢failed : {T : Type 0} (r s : List T) → took r ≡ failed s → ⊥
 took≢failed r s e = subst IsTook e tt
+
+-- where two runs that took tokens, or two that failed, end alike, they left the same tokens
+pub same_took : {T : Type 0} (r s : List T) → took r ≡ took s → r ≡ s
+same_took r s e = ap left_in e
+
+pub same_failed : {T : Type 0} (r s : List T) → failed r ≡ failed s → r ≡ s
+same_failed r s e = ap left_in e
 
 module _ {C T : Type 0} (S : System C T) where
   pub one_run : {g : Grammar C} {ts : List T} {e f : End T} → Runs S g ts e → Runs S g ts f → e ≡ f
@@ -39,20 +46,16 @@ module _ {C T : Type 0} (S : System C T) where
   one_run (run_more b a) (run_more b' a') = one_run a a'
   one_run (run_part a) (run_part a') = one_run a a'
 
-  pub is_false : (b : Bool) → (b ≡ true → ⊥) → b ≡ false
-  is_false true h = absurd (h refl)
-  is_false false h = refl
-
   -- where the next token is of no class of a list, it is of no class of a part of it
   pub narrow : (cs ds : List C) (ts : List T) → ((t : T) → is_of S ds t ≡ true → is_of S cs t ≡ true) → is_next S cs ts ≡ false → is_next S ds ts ≡ false
   narrow cs ds [] f b = refl
-  narrow cs ds (t ∷ ts) f b = is_false (is_of S ds t) (λ i. both_ways (is_of S cs t) (f t i) b)
+  narrow cs ds (t ∷ ts) f b = false_from_ne_true (is_of S ds t) (λ i. both_ways (is_of S cs t) (f t i) b)
 
   module _ (K : IsSystem S) where
     -- the next token goes on behind the first part only where the second one takes nothing
     not_on : (g h : Grammar C) → all_apart S (goes S g) (first S h) ≡ true → (mid : List T) → begins S h mid ≡ true → is_next S (goes S g) mid ≡ false
     not_on g h a [] b = refl
-    not_on g h a (t ∷ w) b = is_false (is_of S (goes S g) t) (λ i. apart_all S K (goes S g) (first S h) t a i b)
+    not_on g h a (t ∷ w) b = false_from_ne_true (is_of S (goes S g) t) (λ i. apart_all S K (goes S g) (first S h) t a i b)
 
     between : (g h : Grammar C) → all_apart S (goes S g) (first S h) ≡ true → {mid rest : List T} → Matches S h mid rest → is_next S (goes S (seq g h)) rest ≡ false → is_next S (goes S g) mid ≡ false
     between g h a {mid} {rest} m b = elim (cases_lt (length rest) (length mid)) [
@@ -64,7 +67,7 @@ module _ {C T : Type 0} (S : System C T) where
     -- a text of the second way doesn't begin as one of the first
     goes_right : (g h : Grammar C) → all_apart S (first S g) (first S h) ≡ true → {ts rest : List T} → Matches S h ts rest → is_next S (goes S (alt g h)) rest ≡ false → begins S g ts ≡ false
     goes_right g h a {ts} {rest} m b = elim (cases_lt (length rest) (length ts)) [
-      | inl x ↦ is_false (begins S g ts) (λ i. other_way S K g h a ts i (begins_of S K m x))
+      | inl x ↦ false_from_ne_true (begins S g ts) (λ i. other_way S K g h a ts i (begins_of S K m x))
       | inr y ↦ subst (λ z. is_next S (first S g) z ≡ false) (sym (not_moved S m y))
           (narrow (goes S (alt g h)) (first S g) rest (λ t i. is_of-right S (goes S g) _ t (is_of-right S (goes S h) _ t (is_of-when S (nullable S h) (first S g) t (null_of S K m y) i))) b)
     ]

@@ -2,6 +2,7 @@
 use Rattle.std.proofs.Common.{◌≡◌, ℕ, zero, suc, List, [], ◌∷◌, Bool, true, false, refl, sym, ◌∙◌, inl, inr, subst}
 use Rattle.std.specs.Prelude.{◌==◌, ◌||◌, ◌&&◌}
 use Rattle.std.proofs.lemmas.Bool.{true≢false, eqb-true, eq-eqb}
+use Rattle.gr_base.proofs.Booleans.{or_false_is}
 use Rattle.gr_grammar.specs.Grammars.{Matches, a_token, no_token, both, the_left, the_right, by_part, IsSystem, is_clear, nullable, first, goes, is_of}
 use Rattle.gr_grammar.proofs.Fronts.{not_true, or_cases, or_left, or_right, and_left, and_right}
 use Rattle.gr_grammar.specs.Words.{rests, firsts, words}
@@ -46,15 +47,11 @@ none zero ts = no_token
 none (suc zero) ts = the_right no_token
 none (suc (suc n)) ts = the_right (the_right no_token)
 
-no_or : (b : Bool) → (b || false) ≡ true → b ≡ true
-no_or true h = refl
-no_or false h = h
-
 begun : (n t : ℕ) → is_of words (firsts n) t ≡ true → (ts : List ℕ) × Matches words (rests n) (t ∷ ts) []
 begun zero t i = absurd (true≢false (sym i))
-begun (suc zero) t i = ([], the_left (both (a_token (no_or _ i)) (by_part no_token)))
+begun (suc zero) t i = ([], the_left (both (a_token (or_false_is _ i)) (by_part no_token)))
 begun (suc (suc n)) t i = elim (or_cases (0 == t) _ i)
-    [ inl x ↦ ([], the_left (both (a_token x) (by_part (none (suc n) [])))) | inr y ↦ (0 ∷ [], the_right (the_left (both (a_token (no_or _ y)) (both (a_token refl) (by_part (none n [])))))) ]
+    [ inl x ↦ ([], the_left (both (a_token x) (by_part (none (suc n) [])))) | inr y ↦ (0 ∷ [], the_right (the_left (both (a_token (or_false_is _ y)) (both (a_token refl) (by_part (none n [])))))) ]
 
 pub is_system : IsSystem words
 is_system = record {

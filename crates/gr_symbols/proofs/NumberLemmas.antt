@@ -8,8 +8,10 @@ use Rattle.std.proofs.lemmas.Option.{same_Some, slice_get_within}
 use Rattle.std.proofs.lemmas.Bool.{false≢true}
 use Rattle.std.proofs.lemmas.Slice.Eq.{bytes_eq-Decides}
 use Rattle.gr_base.specs.Lists.{IsAmong, NoneTwice}
+use Rattle.gr_terms.specs.declared.Sym.{Sym}
+use Rattle.gr_terms.proofs.ViewLemmas.{same_sym}
 use Rattle.gr_symbols.specs.Numbers.{Names, Grows, with_text, with_texts}
-use Rattle.gr_base.proofs.ListLemmas.{NoneTwice-push, IsAmong-list_any, list_any-IsAmong, IsAmong-slice_get, slice_get-IsAmong, one_place, slice_get-append_left}
+use Rattle.gr_base.proofs.ListLemmas.{NoneTwice-push, IsAmong-append_left, IsAmong-new_one, IsAmong-list_any, list_any-IsAmong, IsAmong-slice_get, slice_get-IsAmong, one_place, slice_get-append_left}
 
 -- a text has one number
 pub one_number : (texts : List (List ℕ)) (a b : ℕ) (t : List ℕ) → NoneTwice texts → Names texts a t → Names texts b t → a ≡ b
@@ -30,6 +32,10 @@ numbers_tell_texts_apart texts m n t u once at at' = (
 pub Names-grows : (old new : List (List ℕ)) (n : ℕ) (t : List ℕ) → Names old n t → Grows old new → Names new n t
 Names-grows old new n t at grows =
     subst (λ texts. Names texts n t) (sym grows.1) (slice_get-append_left old grows.0 n t at)
+
+-- a symbol is fixed by its name
+pub one_sym : (texts : List (List ℕ)) → NoneTwice texts → (a b : Sym) (t : List ℕ) → Names texts a.0 t → Names texts b.0 t → a ≡ b
+one_sym texts once a b t h k = same_sym a b (one_number texts a.0 b.0 t once h k)
 
 -- a number is below the number of texts
 pub Names-within : (texts : List (List ℕ)) (n : ℕ) (t : List ℕ) → Names texts n t → n < length texts
@@ -97,11 +103,24 @@ pub with_text-few : (texts : List (List ℕ)) (t : List ℕ) → length (with_te
 with_text-few texts t =
     with_text-by (λ new. length new ≤ length texts + 1) texts t (λ _. omega arith) (λ _. omega (arith, length_push texts t))
 
+-- a text that is there stays as the texts grow, and it is there behind it
+pub IsAmong-grows : (old new : List (List ℕ)) (t : List ℕ) → Grows old new → IsAmong old t → IsAmong new t
+IsAmong-grows old new t grows i = subst (λ z. IsAmong z t) (sym grows.1) (IsAmong-append_left old grows.0 t i)
+
+pub with_text-has : (texts : List (List ℕ)) (t : List ℕ) → IsAmong (with_text texts t) t
+with_text-has texts t = with_text-by (λ new. IsAmong new t) texts t (λ i. i) (λ absent. IsAmong-new_one texts t)
+
 -- the same of several texts
 pub with_texts-grows : (texts ts : List (List ℕ)) → Grows texts (with_texts texts ts)
 with_texts-grows texts [] = Grows-refl texts
 with_texts-grows texts (t ∷ ts) =
     Grows-trans texts (with_text texts t) (with_texts (with_text texts t) ts) (with_text-grows texts t) (with_texts-grows (with_text texts t) ts)
+
+pub with_texts-has : (texts ts : List (List ℕ)) (t : List ℕ) → IsAmong ts t → IsAmong (with_texts texts ts) t
+with_texts-has texts [] t i = absurd i
+with_texts-has texts (u ∷ ts) t (inl e) =
+    IsAmong-grows (with_text texts u) (with_texts (with_text texts u) ts) t (with_texts-grows (with_text texts u) ts) (subst (λ z. IsAmong (with_text texts u) z) (sym e) (with_text-has texts u))
+with_texts-has texts (u ∷ ts) t (inr i) = with_texts-has (with_text texts u) ts t i
 
 pub with_texts-once : (texts ts : List (List ℕ)) → NoneTwice texts → NoneTwice (with_texts texts ts)
 with_texts-once texts [] once = once

@@ -13,6 +13,10 @@ use Rattle.gr_terms.specs.Bags.{IsListed}
 use Rattle.gr_terms.specs.Views.{term_of, assertion_of, network_of}
 use Rattle.gr_terms.specs.BagViews.{pairs_of}
 
+-- a symbol is fixed by its number
+pub same_sym : (a b : Sym) → a.0 ≡ b.0 → a ≡ b
+same_sym a b e = ap {B = Sym} (λ n. record { 0 = n }) e
+
 -- what is read can be read back
 abbrev pub term_from : net.Term ℕ → Term
 term_from (net.name a) = Const (record { 0 = a })

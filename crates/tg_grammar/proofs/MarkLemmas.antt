@@ -2,6 +2,7 @@
 use Rattle.std.specs.Prelude.{◌≡◌, ◌≢◌, ℕ, suc, ◌+◌, ◌≤◌, List, [], ◌∷◌, ◌++◌, length, Option, Some, None, Bool, true, false, if◌then◌else◌, option_map, MatchOption, refl}
 use Rattle.std.proofs.Common.{inl, inr, ap, sym, ◌∙◌, arith, eq-eqb}
 use Rattle.std.proofs.lemmas.Bool.Decides.{eqb_tells}
+use Rattle.std.proofs.lemmas.Option.{none-some, same_Some}
 use Rattle.gr_base.specs.Lists.{IsAmong}
 use Rattle.gr_terms.specs.Bags.{IsListed, LacksAttribute}
 use Rattle.gr_terms.proofs.BagLemmas.{IsListed-value}
@@ -10,6 +11,7 @@ use Rattle.gr_terms.specs.Networks as net
 use Rattle.gr_terms.specs.Views.{term_of}
 use Rattle.gr_terms.specs.declared.Sym.{Sym}
 use Rattle.gr_terms.specs.declared.Term.{Term}
+use Rattle.td_tree.specs.Trees.{BagPairs}
 use Rattle.tg_grammar.specs.Marks.{value_of, numbers_from}
 
 -- the first pair has the attribute, or another
@@ -77,3 +79,17 @@ length-numbers_≤ n test (x ∷ xs) =
       | true ↦ omega (arith, length-numbers_≤ (suc n) test xs)
       | false ↦ omega (arith, length-numbers_≤ (suc n) test xs)
     ]
+
+-- the value of an attribute stands in the bag
+pub value_there : (bag : BagPairs) (a : ℕ) (z : net.Term ℕ) → value_of (pairs_of bag) a ≡ Some z → (y : Term) × IsAmong bag (record { 0 = a }, y) × (z ≡ term_of y)
+value_there [] a z e = absurd (none-some z e)
+value_there (p ∷ bag) a z e = elim (eqb_tells p.0.0 a) [
+  | inl h ↦
+      let first : Some (term_of p.1) ≡ Some z = sym (ap (λ b. if b then Some (term_of p.1) else value_of (pairs_of bag) a) h.0) ∙ e in
+      let attr : a ≡ p.0.0 = sym h.1 in
+      (p.1, inl (λ i. (record { 0 = attr i }, p.1)), sym (same_Some (term_of p.1) z first))
+  | inr h ↦
+      let rest : value_of (pairs_of bag) a ≡ Some z = sym (ap (λ b. if b then Some (term_of p.1) else value_of (pairs_of bag) a) h.0) ∙ e in
+      let r = value_there bag a z rest in
+      (r.0, inr r.1, r.2)
+]

@@ -5,8 +5,10 @@ use Rattle.std.proofs.lemmas.Bool.{true≢false}
 use Rattle.std.proofs.lemmas.List.{map-append}
 use Rattle.std.proofs.lemmas.Slice.Eq.{bytes_eq-Decides}
 use Rattle.gr_base.specs.Lists.{IsAmong, NoneTwice}
-use Rattle.gr_base.proofs.ListLemmas.{NoneTwice-push, IsAmong-append, IsAmong-append_left, IsAmong-new_one}
+use Rattle.gr_base.proofs.ListLemmas.{NoneTwice-push, IsAmong-append, IsAmong-append_left, IsAmong-new_one, cons-not_nil}
+use Rattle.gr_base.proofs.Booleans.{or_true}
 use Rattle.gr_terms.specs.declared.Sym.{Sym}
+use Rattle.gr_terms.proofs.ViewLemmas.{same_sym}
 use Rattle.gr_symbols.specs.Numbers.{Names}
 use Rattle.gr_symbols.proofs.NumberLemmas.{numbers_tell_texts_apart}
 use Rattle.gr_grammar.proofs.Fronts.{or_cases}
@@ -25,34 +27,23 @@ pub one_of_is : (ts : List (List ℕ)) (t : List ℕ) → is_one_of ts t ≡ tru
 one_of_is [] t e = absurd (true≢false (sym e))
 one_of_is (u ∷ ts) t e = elim (or_cases (bytes_eq u t) (is_one_of ts t) e) [ inl h ↦ inl (sym ((bytes_eq-Decides u t).0 h)) | inr h ↦ inr (one_of_is ts t h) ]
 
-or_true : (a : Bool) → (a || true) ≡ true
-or_true true = refl
-or_true false = refl
-
 pub is_one : (ts : List (List ℕ)) (t : List ℕ) → IsAmong ts t → is_one_of ts t ≡ true
 is_one [] t h = absurd h
 is_one (u ∷ ts) t (inl e) = ap (λ z. z || is_one_of ts t) ((bytes_eq-Decides u t).1 (sym e))
 is_one (u ∷ ts) t (inr h) = ap (λ z. bytes_eq u t || z) (is_one ts t h) ∙ or_true (bytes_eq u t)
 
--- where there is no complaint
-no_cons : {A : Type 0} (x : A) (xs : List A) → ◌≡◌ {A = List A} (x ∷ xs) [] → ⊥
-no_cons x xs e = cc
-
 pub no_complaint_if : (b : Bool) (fault : Fault) (left : ℕ) → complaint_if b fault left ≡ [] → b ≡ false
-no_complaint_if true fault left e = absurd (no_cons _ [] e)
+no_complaint_if true fault left e = absurd (cons-not_nil _ [] e)
 no_complaint_if false fault left e = refl
 
 pub no_complaint_at : (fault : Fault) (left : Option ℕ) → complaint_at fault left ≡ [] → left ≡ None
 no_complaint_at fault None e = refl
-no_complaint_at fault (Some n) e = absurd (no_cons _ [] e)
+no_complaint_at fault (Some n) e = absurd (cons-not_nil _ [] e)
 
 -- where an attribute first stands a second time, by texts and by numbers
 module _ (texts : List (List ℕ)) (once : NoneTwice texts) where
   abbrev AreKnown : List Sym → List (List ℕ) → Type 0
   AreKnown done seen = (s : Sym) (t : List ℕ) → Names texts s.0 t → (is_one_of seen t ≡ true → IsAmong done s) × (IsAmong done s → is_one_of seen t ≡ true)
-
-  same_sym : (s u : Sym) → s.0 ≡ u.0 → s ≡ u
-  same_sym s u e = λ i. record { 0 = e i }
 
   one_text : {t u : List ℕ} → IsAmong (u ∷ []) t → t ≡ u
   one_text (inl e) = e

@@ -1,9 +1,8 @@
 -- A bag that is put into a store pair by pair.
 use Rattle.std.proofs.Common.{◌≡◌, ℕ, ◌+◌, ◌-◌, ◌≤◌, List, [], ◌∷◌, ◌++◌, length, take, drop, Some, slice_get, sym, ◌∙◌, ap, subst, append_assoc, arith}
-use Rattle.std.proofs.lemmas.List.{append-nil, map-append, length-append, take_more, take-append-drop}
-use Rattle.std.proofs.lemmas.Option.{slice_get_within, get_or_from_slice_get}
+use Rattle.std.proofs.lemmas.List.{append-nil, map-append, length-append, take-append-drop}
 use Rattle.gr_base.specs.Lists.{Each}
-use Rattle.gr_base.proofs.ListLemmas.{IsAmong-append_left}
+use Rattle.gr_base.proofs.ListLemmas.{IsAmong-append_left, take-one_more}
 use Rattle.gr_terms.specs.declared.Sym.{Sym}
 use Rattle.gr_terms.specs.declared.Term.{Term}
 use Rattle.gr_terms.specs.declared.Term.TheVariants.{Const, Var}
@@ -33,11 +32,6 @@ with_entries-none c slot first =
       spare = record c.spare { entries = entries i; assertions = assertions i };
     }
 
--- one pair more
-pub first_items : {A : Type 0} (pairs : List A) (place : ℕ) (pair : A) → slice_get pairs place ≡ Some pair → take (place + 1) pairs ≡ take place pairs ++ pair ∷ []
-first_items pairs place pair at =
-    take_more pairs place pair (slice_get_within pairs place pair at) ∙ ap (λ q. take place pairs ++ q ∷ []) (get_or_from_slice_get pairs place pair pair at)
-
 pub with_entries-more : (c : Contents) (slot : SlotId) (first : ℕ) (pairs : List (Sym × Term)) (pair : Sym × Term)
     → accepting (with_entries c slot first pairs) (Entry slot pair.0 (counted_from first pair.1)) ≡ with_entries c slot first (pairs ++ pair ∷ [])
 with_entries-more c slot first pairs pair =
@@ -62,7 +56,7 @@ pub IsLoaded-more : (old now new : Contents) (slot : SlotId) (first : ℕ) (pair
     → Agrees (network_of (now.accepted ++ Entry slot pair.0 (counted_from first pair.1) ∷ [])) → IsLoaded old slot first (take (place + 1) pairs) new
 IsLoaded-more old now new slot first pairs place pair at loaded is grows agrees = record {
   is = is ∙ ap (λ c. accepting c (Entry slot pair.0 (counted_from first pair.1))) loaded.is
-      ∙ with_entries-more old slot first (take place pairs) pair ∙ ap (with_entries old slot first) (sym (first_items pairs place pair at));
+      ∙ with_entries-more old slot first (take place pairs) pair ∙ ap (with_entries old slot first) (sym (take-one_more pairs place pair at));
   agrees = subst (λ c. Agrees (network_of c.accepted)) (sym is) agrees;
   grows = Grows-trans old now new loaded.grows grows;
 }
@@ -81,7 +75,7 @@ entries_within old now slot first pairs place pair at is agrees =
     let here : Agrees (network_of upto) = Agrees-part (network_of upto) (network_of upto ++ network_of rest) (λ x i. IsAmong-append_left (network_of upto) (network_of rest) x i) (subst (λ N. Agrees N) (sym split) agrees) in
     let same : now.accepted ++ Entry slot pair.0 (counted_from first pair.1) ∷ [] ≡ upto =
     ap (λ c. c.accepted ++ Entry slot pair.0 (counted_from first pair.1) ∷ []) is
-    ∙ ap (λ c. c.accepted) (with_entries-more old slot first (take place pairs) pair) ∙ ap (λ ps. old.accepted ++ entries_of slot first ps) (sym (first_items pairs place pair at)) in
+    ∙ ap (λ c. c.accepted) (with_entries-more old slot first (take place pairs) pair) ∙ ap (λ ps. old.accepted ++ entries_of slot first ps) (sym (take-one_more pairs place pair at)) in
     subst (λ list. Agrees (network_of list)) (sym same) here
 
 -- variables counted from the first one are made where enough are

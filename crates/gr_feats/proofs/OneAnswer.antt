@@ -4,14 +4,12 @@ use Rattle.gr_base.specs.Lists.{IsAmong, NoneTwice}
 use Rattle.gr_base.proofs.ListLemmas.{same_head, same_tail, IsAmong-map, NoneTwice-again}
 use Rattle.std.proofs.lemmas.List.{map-append}
 use Rattle.gr_text.specs.declared.Place.{Place}
-use Rattle.gr_terms.specs.declared.Sym.{Sym}
 use Rattle.gr_terms.specs.declared.Term.{Term}
 use Rattle.gr_terms.specs.declared.Term.TheVariants.{Const, Var}
 use Rattle.gr_terms.specs.declared.Literal.{Literal}
 use Rattle.gr_terms.specs.declared.bag.Bag.{Bag}
 use Rattle.gr_terms.proofs.BagLemmas.{IsListed-unique}
-use Rattle.gr_symbols.specs.Numbers.{Names}
-use Rattle.gr_symbols.proofs.NumberLemmas.{one_number}
+use Rattle.gr_symbols.proofs.NumberLemmas.{one_number, one_sym}
 use Rattle.gr_tokens.specs.declared.Token.{Token}
 use Rattle.gr_tokens.specs.declared.ReadRefusal.{ReadRefusal}
 use Rattle.gr_tokens.specs.declared.ReadRefusal.TheVariants as refusal
@@ -74,11 +72,8 @@ module _ {W X : Type 0} (R : Numbering → W → X → Numbering → Type 0) (is
   row_keeps before (w ∷ ws) (x ∷ xs) a is h = row_keeps h.0 ws xs a (is_one.keeps before w x h.0 is h.1) h.2
 
 module _ (texts : List (List ℕ)) (once : NoneTwice texts) where
-  same_sym : (a b : Sym) (t : List ℕ) → Names texts a.0 t → Names texts b.0 t → a ≡ b
-  same_sym a b t h k = let e = one_number texts a.0 b.0 t once h k in λ i. record { 0 = e i }
-
-  one_term : (before : Numbering) (w : Written) (x y : Term) (a b : Numbering) → IsNumbering before → IsTerm texts before w x a → IsTerm texts before w y b → (x ≡ y) × (a ≡ b)
-  one_term before (a_name t) (Const n) (Const m) a b is h k = (ap Const (same_sym n m t h.0 k.0), h.1 ∙ sym k.1)
+  pub one_term : (before : Numbering) (w : Written) (x y : Term) (a b : Numbering) → IsNumbering before → IsTerm texts before w x a → IsTerm texts before w y b → (x ≡ y) × (a ≡ b)
+  one_term before (a_name t) (Const n) (Const m) a b is h k = (ap Const (one_sym texts once n m t h.0 k.0), h.1 ∙ sym k.1)
   one_term before (a_name t) (Const n) (Var j) a b is h k = absurd k
   one_term before (a_name t) (Var i) y a b is h k = absurd h
   one_term before (a_variable t) (Const n) y a b is h k = absurd h
@@ -88,7 +83,7 @@ module _ (texts : List (List ℕ)) (once : NoneTwice texts) where
       let m = one_meeting before h.0 i j a b is h.2 (subst (λ n. Meets before n j b) e k.2) in
       (ap Var m.0, m.1)
 
-  term_keeps : (before : Numbering) (w : Written) (x : Term) (a : Numbering) → IsNumbering before → IsTerm texts before w x a → IsNumbering a
+  pub term_keeps : (before : Numbering) (w : Written) (x : Term) (a : Numbering) → IsNumbering before → IsTerm texts before w x a → IsNumbering a
   term_keeps before (a_name t) (Const n) a is h = subst IsNumbering (sym h.1) is
   term_keeps before (a_name t) (Var i) a is h = absurd h
   term_keeps before (a_variable t) (Const n) a is h = absurd h
@@ -101,17 +96,17 @@ module _ (texts : List (List ℕ)) (once : NoneTwice texts) where
   pairs_one = record {
     one = λ before w x y a b is h k.
         let e = one_term before w.value x.value y.value a b is h.value k.value in
-        let s = same_sym x.attr y.attr w.attr h.attr k.attr in
+        let s = one_sym texts once x.attr y.attr w.attr h.attr k.attr in
         let l = h.left ∙ sym k.left in
         ((λ i. record { attr = s i; value = e.0 i; left = l i }), e.1);
     keeps = λ before w x a is h. term_keeps before w.value x.value a is h.value;
   }
 
-  one_handle : (before : Numbering) (w : Option Written) (x y : Term) (a b : Numbering) → IsNumbering before → IsHandle texts before w x a → IsHandle texts before w y b → (x ≡ y) × (a ≡ b)
+  pub one_handle : (before : Numbering) (w : Option Written) (x y : Term) (a b : Numbering) → IsNumbering before → IsHandle texts before w x a → IsHandle texts before w y b → (x ≡ y) × (a ≡ b)
   one_handle before None x y a b is h k = (h.0 ∙ sym k.0, h.1 ∙ sym k.1)
   one_handle before (Some w) x y a b is h k = one_term before w x y a b is h k
 
-  handle_keeps : (before : Numbering) (w : Option Written) (x : Term) (a : Numbering) → IsNumbering before → IsHandle texts before w x a → IsNumbering a
+  pub handle_keeps : (before : Numbering) (w : Option Written) (x : Term) (a : Numbering) → IsNumbering before → IsHandle texts before w x a → IsNumbering a
   handle_keeps before None x a is h = subst IsNumbering (sym h.1) (IsNumbering-with_own before is)
   handle_keeps before (Some w) x a is h = term_keeps before w x a is h
 

@@ -1,7 +1,7 @@
 -- A run over the tokens before the first bracket that opens too deep gives the right answer for all tokens.
 use Rattle.std.proofs.Common.{◌≡◌, ℕ, zero, suc, ◌+◌, ◌-◌, ◌<◌, ◌≤◌, List, [], ◌∷◌, ◌++◌, length, take, drop, map, true, refl, ap, sym, ◌∙◌, subst, arith, append-nil, length-append}
 use Rattle.std.specs.Prelude.{slice_range}
-use Rattle.std.proofs.lemmas.List.{length-map, length-drop}
+use Rattle.std.proofs.lemmas.List.{length-map, length-drop, nil_from_length}
 use Rattle.gr_grammar.specs.Grammars.{Grammar, System, IsSystem, Matches, is_clear, took, failed, End, Runs, tree_of}
 use Rattle.gr_grammar.specs.Readings.{IsStopBefore}
 use Rattle.gr_grammar.specs.Depths.{IsShallow, IsShallowFault, IsCut}
@@ -36,10 +36,6 @@ whole_take : {A : Type 0} (n : ℕ) (xs : List A) → length xs ≤ n → take n
 whole_take n [] l = take_none n
 whole_take zero (x ∷ xs) l = absurd (omega arith)
 whole_take (suc n) (x ∷ xs) l = ap (λ z. x ∷ z) (whole_take n xs (omega arith))
-
-no_tokens : {A : Type 0} (xs : List A) → length xs ≤ 0 → xs ≡ []
-no_tokens [] l = refl
-no_tokens (x ∷ xs) l = absurd (omega arith)
 
 -- the lexemes of the first tokens, and those of the tokens from one number on
 pub front_lexemes : (bytes : List ℕ) (tokens : List Token) (n : ℕ) → lexemes bytes (slice_range tokens 0 n) ≡ take n (lexemes bytes tokens)
@@ -106,8 +102,8 @@ module _ (S : System Class Lexeme) (K : IsSystem S) (g : Grammar Class) (clear :
   file_took P rest at r l h p =
       let n = counts in
       let n0 = n.0 in let n2 = n.2 in
-      let none : rest ≡ [] = no_tokens rest (omega arith) in
-      let shut : deep ≡ [] = no_tokens deep (omega arith) in
+      let none : rest ≡ [] = nil_from_length rest (omega arith) in
+      let shut : deep ≡ [] = nil_from_length deep (omega arith) in
       let same : part ≡ all = sym (cut.split ∙ (ap (λ z. part ++ z) shut ∙ append-nil part)) in
       let q : (m : Matches S g part []) × P part [] m = subst (λ z. (m : Matches S g part z) × P part z m) none (tree_of r, p) in
       let t : (m : Matches S g all []) × P all [] m = subst (λ z. (m : Matches S g z []) × P z [] m) same q in

@@ -3,7 +3,7 @@ use Rattle.std.proofs.Common.{◌≡◌, ℕ, zero, suc, ◌+◌, ◌-◌, ◌<�
 use Rattle.std.specs.Prelude.{Result, Ok, Err}
 use Rattle.std.proofs.Math.Seq.{take-append_seam, drop-append_seam}
 use Rattle.std.proofs.lemmas.Bool.{true≢false, cases_lt}
-use Rattle.std.proofs.lemmas.List.{append_cancel_right, take-append-drop}
+use Rattle.std.proofs.lemmas.List.{append_cancel_right, take-append-drop, nil_from_length}
 use Rattle.gr_grammar.specs.declared.brackets.Turn.TheVariants.{Neither}
 use Rattle.gr_grammar.specs.Grammars.{Grammar, System, IsSystem, Matches, IsText, GoesOn, IsStuck, IsFault, is_clear, is_of, goes, End, took, failed, Runs, tree_of}
 use Rattle.gr_grammar.proofs.Exact.{exact, fault_of, fault_behind, extend, diverge, Diverge, together, sooner, later}
@@ -62,10 +62,6 @@ front_take : {T : Type 0} (front rest : List T) (n : ℕ) → length front ≤ n
 front_take [] rest n l = (take n rest, refl)
 front_take (y ∷ front) rest zero l = absurd (omega arith)
 front_take (y ∷ front) rest (suc n) l = let r = front_take front rest n (omega arith) in (r.0, ap (λ z. y ∷ z) r.1)
-
-no_more : {T : Type 0} (xs : List T) → length xs ≤ 0 → xs ≡ []
-no_more [] l = refl
-no_more (x ∷ xs) l = absurd (omega arith)
 
 -- a front of more tokens goes on behind one of fewer
 over : {T : Type 0} (ts : List T) (m n : ℕ) → m < n → n ≤ length ts → (t : T) × (w u : List T) × (drop m ts ≡ t ∷ w) × (take n ts ≡ (take m ts ++ t ∷ []) ++ u)
@@ -195,7 +191,7 @@ module _ {C T : Type 0} (S : System C T) (g : Grammar C) where
             let is : take n ts ≡ front ++ r.0 = e ∙ r.1 in
             let other : Matches S g (front ++ (r.0 ++ more)) [] = subst (λ z. Matches S g z []) (ap (λ z. z ++ more) is ∙ append_assoc front r.0 more) whole in
             let d = together_of (diverge S K clear (again (r.0 ++ more)) other) in
-            let none : r.0 ≡ [] = no_more r.0 (let x = ap length d in let y = length-append r.0 more in omega arith) in
+            let none : r.0 ≡ [] = nil_from_length r.0 (let x = ap length d in let y = length-append r.0 more in omega arith) in
             h.none (subst (λ z. IsText S g z) (sym (is ∙ (ap (λ z. front ++ z) none ∙ append-nil front))) text)
 
 -- a reading of a front is a run, for the reader around it

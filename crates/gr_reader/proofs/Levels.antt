@@ -1,14 +1,14 @@
 -- Where a grammar never opens a bracket too deep, the limit says nothing.
 use Rattle.std.proofs.Common.{◌≡◌, ℕ, List, [], ◌∷◌, ◌++◌, Option, Some, None, Bool, true, false, inl, inr, refl, ap, sym, ◌∙◌, subst, append_assoc, append-nil}
 use Rattle.std.specs.Prelude.{◌==◌, ◌||◌, ◌&&◌, if◌then◌else◌}
-use Rattle.std.proofs.lemmas.Bool.{eqb-true, ltb-true}
+use Rattle.std.proofs.lemmas.Bool.{eqb-true}
 use Rattle.std.proofs.lemmas.Option.{none-some, same_Some}
-use Rattle.gr_grammar.specs.declared.brackets.Turn.{Turn}
-use Rattle.gr_grammar.specs.declared.brackets.Turn.TheVariants.{Opens, Closes, Neither}
+use Rattle.gr_grammar.specs.declared.brackets.Turn.TheVariants.{Neither}
 use Rattle.gr_grammar.specs.Grammars.{Grammar, Info, Matches, a_token, no_token, both, the_left, the_right, no_more, one_more, by_part, IsText, GoesOn, IsStuck, IsFault}
 use Rattle.gr_grammar.specs.Depths.{depth, HasRoom, IsShallow, IsStuckShallow, IsShallowFault, has_room, some_if, next_depth}
 use Rattle.gr_grammar.proofs.Fronts.{and_left, and_right, or_cases}
 use Rattle.gr_grammar.proofs.Deep.{shallow_front}
+use Rattle.gr_grammar.proofs.Cuts.{is_room}
 use Rattle.gr_reader.specs.Lexemes.{Lexeme}
 use Rattle.gr_reader.specs.Classes.{Class, sign, keyword, any_word, word_but, word_among, any_string, any_name, variable, is_one_of, kind_number, test, system_of}
 use Rattle.gr_reader.specs.Brackets.{turn, turn_by, opening, closing}
@@ -52,11 +52,6 @@ some_is : (b : Bool) (n m : ℕ) → some_if b n ≡ Some m → (b ≡ true) × 
 some_is true n m h = (refl, same_Some n m h)
 some_is false n m h = absurd (none-some m h)
 
-room_is : (limit n : ℕ) (x : Turn) → has_room limit n x ≡ true → HasRoom limit n x
-room_is limit n Opens h = ltb-true n limit h
-room_is limit n Closes h = tt
-room_is limit n Neither h = tt
-
 seq_by : (limit m : ℕ) (h : Grammar Class) (x : Option ℕ) → elim x [ None ↦ None | Some k ↦ level_behind limit k h ] ≡ Some m → (k : ℕ) × (x ≡ Some k) × (level_behind limit k h ≡ Some m)
 seq_by limit m h None e = absurd (none-some m e)
 seq_by limit m h (Some k) e = (k, refl, e)
@@ -91,7 +86,7 @@ module _ (limit : ℕ) where
       record {
         front = t ∷ [];
         split = refl;
-        shallow = (subst (λ z. HasRoom limit n z) (sym x) (room_is limit n (class_turn c) s.0), tt);
+        shallow = (subst (λ z. HasRoom limit n z) (sym x) (is_room limit n (class_turn c) s.0), tt);
         level = ap (λ z. depth n z) x ∙ s.1;
       }
 

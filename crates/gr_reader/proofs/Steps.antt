@@ -1,11 +1,13 @@
 -- The steps of a function that reads a part of a grammar.
-use Rattle.std.proofs.Common.{◌≡◌, ℕ, suc, ◌-◌, ◌<◌, ◌≤◌, List, [], ◌∷◌, ◌++◌, length, take, Bool, true, false, refl, ap, sym, ◌∙◌, subst, arith, append_assoc}
+use Rattle.std.proofs.Common.{◌≡◌, ℕ, ◌-◌, ◌<◌, ◌≤◌, List, [], ◌∷◌, ◌++◌, length, take, Bool, true, false, refl, ap, sym, ◌∙◌, subst, arith, append_assoc}
 use Rattle.std.specs.Prelude.{◌||◌, slice_range}
 use Rattle.std.proofs.Math.Seq.{take-length}
 use Rattle.gr_grammar.specs.Grammars.{Grammar, tok, nil, seq, alt, star, part, Info, System, Matches, a_token, Runs, take_token, bad_token, bad_end, take_nothing, run_both, run_first, run_left, run_right, run_part, took, failed, tree_of, begins, is_next, is_of, Rounds, start, round, round_items, items}
 use Rattle.gr_grammar.proofs.Fronts.{no_longer}
 use Rattle.gr_grammar.proofs.Loops.{ended, ended-items, broken}
 use Rattle.gr_base.proofs.ListLemmas.{same_head, same_tail}
+use Rattle.gr_base.proofs.Numbers.{one_less}
+use Rattle.gr_base.proofs.Booleans.{or_false}
 use Rattle.gr_tokens.specs.declared.Token.{Token}
 use Rattle.gr_symbols.specs.Numbers.{Names}
 use Rattle.gr_reader.specs.Lexemes.{Lexeme, lexeme_of, lexemes}
@@ -13,9 +15,6 @@ use Rattle.gr_reader.specs.Classes.{Class, test, sees, sees_one, system_of}
 use Rattle.gr_reader.specs.Parts.{Took, Stands, Stays, TookText, TookNumber, StaysFor, for_other, for_want, Skips, token_of, StopsAt, for_syntax, for_memory}
 use Rattle.gr_reader.specs.declared.reader.Stop.{Stop}
 use Rattle.gr_reader.specs.declared.reader.Stop.TheVariants.{Syntax, Memory}
-
-one_less : (n : ℕ) → suc n - 1 ≡ n
-one_less n = omega arith
 
 -- one token less in the code is one lexeme less
 next_lexemes : (bytes : List ℕ) (ts : List Token) (l : Lexeme) (rest : List Lexeme) → lexemes bytes ts ≡ l ∷ rest → lexemes bytes (slice_range ts 1 (length ts)) ≡ rest
@@ -31,10 +30,6 @@ took_by bytes ts now c text e s = record {
   };
   is = s.text_is;
 }
-
-or_false : (b : Bool) → (b || false) ≡ b
-or_false true = refl
-or_false false = refl
 
 sees_none : (cs : List Class) → sees_one cs [] ≡ false
 sees_none [] = refl

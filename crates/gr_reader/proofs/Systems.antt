@@ -1,7 +1,7 @@
 -- Classes that are called apart share no lexeme, and each class has one.
-use Rattle.std.proofs.Common.{◌≡◌, ℕ, ◌<◌, ◌≤◌, List, [], ◌∷◌, ◌++◌, length, Bool, true, false, inl, inr, refl, ap, sym, ◌∙◌, subst, arith, length-append}
+use Rattle.std.proofs.Common.{◌≡◌, ℕ, ◌<◌, ◌≤◌, List, [], ◌∷◌, ◌++◌, length, true, false, inl, inr, refl, ap, sym, ◌∙◌, subst, arith, length-append}
 use Rattle.std.specs.Prelude.{◌||◌, ◌&&◌, not, bytes_eq}
-use Rattle.std.proofs.lemmas.Bool.{true≢false, cases_Bool}
+use Rattle.std.proofs.lemmas.Bool.{true≢false, cases_Bool, and_from, or_from}
 use Rattle.std.proofs.lemmas.Slice.Eq.{bytes_eq-Decides}
 use Rattle.gr_grammar.specs.Grammars.{IsSystem, no_token}
 use Rattle.gr_grammar.proofs.Fronts.{and_left, and_right, or_cases, not_true}
@@ -52,15 +52,11 @@ kind_apart c d Str h = and_left (no_kind c d 1) _ (and_right (no_kind c d 0) _ h
 kind_apart c d Var h = and_left (no_kind c d 2) _ (and_right (no_kind c d 1) _ (and_right (no_kind c d 0) _ h))
 kind_apart c d Punct h = and_right (no_kind c d 2) _ (and_right (no_kind c d 1) _ (and_right (no_kind c d 0) _ h))
 
-and_both : (a b : Bool) → a ≡ true → b ≡ true → (a && b) ≡ true
-and_both true b p q = q
-and_both false b p q = absurd (true≢false (sym p))
-
 pub are_apart : (c d : Class) (t : Lexeme) → apart c d ≡ true → test c t ≡ true → test d t ≡ true → ⊥
 are_apart c d t a p q =
     let k = kind_number t.kind in
     elim (or_cases (kinds_apart c d) (texts_apart c d) a) [
-      | inl e ↦ not_true (takes_kind c k && takes_kind d k) (kind_apart c d t.kind e) (and_both (takes_kind c k) (takes_kind d k) (and_left (takes_kind c k) _ p) (and_left (takes_kind d k) _ q))
+      | inl e ↦ not_true (takes_kind c k && takes_kind d k) (kind_apart c d t.kind e) (and_from (takes_kind c k) (takes_kind d k) (and_left (takes_kind c k) _ p) (and_left (takes_kind d k) _ q))
       | inr e ↦ no_text c d t.text e (and_right (takes_kind c k) _ p) (and_right (takes_kind d k) _ q)
     ]
 
@@ -72,16 +68,12 @@ longer (w ∷ ws) = 0 ∷ w ++ longer ws
 differ : (a b : List ℕ) → length a < length b → bytes_eq a b ≡ false
 differ a b l = elim (cases_Bool (bytes_eq a b)) [ inl e ↦ absurd (let h = ap length (same_bytes a b e) in omega arith) | inr e ↦ e ]
 
-or_none : (a b : Bool) → a ≡ false → b ≡ false → (a || b) ≡ false
-or_none true b p q = absurd (true≢false p)
-or_none false b p q = q
-
 outside : (ws : List (List ℕ)) (x : List ℕ) → length (longer ws) ≤ length x → is_one_of ws x ≡ false
 unfolding longer
 outside [] x l = refl
 outside (w ∷ ws) x l =
     let e = length-append w (longer ws) in
-    or_none (bytes_eq w x) (is_one_of ws x) (differ w x (omega arith)) (outside ws x (omega arith))
+    or_from (bytes_eq w x) (is_one_of ws x) (differ w x (omega arith)) (outside ws x (omega arith))
 
 pub shown : (c : Class) → (t : Lexeme) × (test c t ≡ true)
 shown (sign s) = (record { kind = Punct; text = s }, equal_bytes s)

@@ -1,8 +1,9 @@
 -- Lists of the code's assertions and the networks that they are read as.
-use Rattle.std.proofs.Common.{◌≡◌, ℕ, zero, suc, ◌<◌, ◌≤◌, ◌⊎◌, inl, inr, List, [], ◌∷◌, length, get_or, refl, sym, ◌∙◌, ap, subst, arith}
+use Rattle.std.proofs.Common.{◌≡◌, ℕ, ◌<◌, ◌≤◌, ◌⊎◌, inl, inr, List, refl, sym, ◌∙◌, ap, subst, arith}
 use Rattle.std.specs.List.{Contains}
 use Rattle.gr_base.specs.Lists.{IsAmong, IsWithin}
 use Rattle.gr_base.proofs.ListLemmas.{Each-at, IsAmong-map, IsAmong-map_from}
+use Rattle.gr_base.proofs.OrderedPairs.{Contains-IsAmong, IsAmong-Contains}
 use Rattle.gr_terms.specs.declared.Sym.{Sym}
 use Rattle.gr_terms.specs.declared.SlotId.{SlotId}
 use Rattle.gr_terms.specs.declared.Term.{Term}
@@ -15,28 +16,14 @@ use Rattle.gr_store.specs.Contents.{Mentions, MentionsAll}
 use Rattle.gr_terms.proofs.ViewLemmas.{IsAmong-network_of, assertion_from, assertion_from-assertion_of, term_from, term_of-term_from}
 use Rattle.gr_store.specs.Solution.{LinkedTerms, LinkedSlots, IsPartOf}
 
--- the two words for an element of a list say the same
-pub IsAmong-contains : {A : Type 0} (xs : List A) (x : A) → Contains xs x → IsAmong xs x
-IsAmong-contains {A} xs x c = at xs c.0 c.1 c.2
-  where
-    at : (ys : List A) (k : ℕ) → k < length ys → get_or ys k x ≡ x → IsAmong ys x
-    at [] k h e = absurd (omega arith)
-    at (y ∷ ys) zero h e = inl (sym e)
-    at (y ∷ ys) (suc k) h e = inr (at ys k (omega arith) e)
-
-pub Contains-among : {A : Type 0} (xs : List A) (x : A) → IsAmong xs x → Contains xs x
-Contains-among [] x i = absurd i
-Contains-among (y ∷ ys) x (inl e) = (zero, omega arith, sym e)
-Contains-among (y ∷ ys) x (inr i) = let c = Contains-among ys x i in (suc c.0, omega (arith, c.1), c.2)
-
 -- an assertion of a network is one of the list that is read so
 pub Contains-network : (list : List Assertion) (a : net.Assertion ℕ ℕ) → IsAmong (network_of list) a → Contains list (assertion_from a)
 Contains-network list a i =
     let from = IsAmong-map_from assertion_of list a i in
-    Contains-among list (assertion_from a) (subst (IsAmong list) (sym (ap assertion_from from.2 ∙ assertion_from-assertion_of from.0)) from.1)
+    Contains-IsAmong list (assertion_from a) (subst (IsAmong list) (sym (ap assertion_from from.2 ∙ assertion_from-assertion_of from.0)) from.1)
 
 pub IsAmong-network : (list : List Assertion) (x : Assertion) → Contains list x → IsAmong (network_of list) (assertion_of x)
-IsAmong-network list x c = IsAmong-map assertion_of list x (IsAmong-contains list x c)
+IsAmong-network list x c = IsAmong-map assertion_of list x (IsAmong-Contains list x c)
 
 -- the links that single assertions of a list make
 pub by_equate : (list : List Assertion) (a b : Term) → Contains list (Equate a b) → LinkedTerms list a b
@@ -51,7 +38,7 @@ by_entries list s t attr a b l c d = net.shared s.0 t.0 attr.0 _ _ l (IsAmong-ne
 pub IsWithin-network : (part whole : List Assertion) → IsPartOf part whole → IsWithin (network_of part) (network_of whole)
 IsWithin-network part whole inside a i =
     let from = IsAmong-map_from assertion_of part a i in
-    subst (IsAmong (network_of whole)) (sym from.2) (IsAmong-network whole from.0 (inside from.0 (Contains-among part from.0 from.1)))
+    subst (IsAmong (network_of whole)) (sym from.2) (IsAmong-network whole from.0 (inside from.0 (Contains-IsAmong part from.0 from.1)))
 
 -- slots that are linked are one, or both are made
 pub linked_made : (vars slots : ℕ) (list : List Assertion) → MentionsAll vars slots list → (s t : ℕ) → net.AreLinkedSlots (network_of list) s t → (s ≡ t) ⊎ ((s < slots) × (t < slots))

@@ -9,12 +9,12 @@ use Rattle.std.specs.List.{range_with_len, swap}
 use Rattle.gr_base.specs.Lists.{IsAmong, IsWithin, NoneTwice}
 use Rattle.gr_base.proofs.ListLemmas.{IsAmong-append, IsAmong-append_left, IsAmong-append_right}
 use Rattle.gr_base.proofs.Counting.{length-within}
+use Rattle.gr_base.proofs.OrderedPairs.{IsAmong-Contains}
 use Rattle.gr_terms.specs.declared.Term.{Term}
 use Rattle.gr_terms.specs.declared.Term.TheVariants.{Var}
 use Rattle.gr_store.specs.declared.bindings.Bound.{Bound}
 use Rattle.gr_store.specs.Roots.{bound_by, root_by}
 use Rattle.gr_store.specs.Rings.{node_of, turned, next_of, joined_rings, rings_by, ring_of, IsWalk, IsRing, HasRing, BindsNode, AreRings}
-use Rattle.gr_store.proofs.Members.{IsAmong-contains}
 use Rattle.gr_store.proofs.Trails.{root_by-push, bound_by-same, bound_by-other, bound_cases}
 
 turned-push : (trail : List Bound) (e : Bound) (next : List ℕ) → turned (trail ++ e ∷ []) next ≡ swap (turned trail next) e.var (node_of e.to)
@@ -279,7 +279,7 @@ pub length-ring : (nodes : ℕ × List Bound) (next : List ℕ) (root : ℕ) (ri
 length-ring nodes next root ring r root_in =
     let all : List ℕ = range_with_len 0 nodes.0 in
     let among : (x : ℕ) → x < nodes.0 → IsAmong all x =
-    λ x below. IsAmong-contains all x (x, omega (arith, length-range_with_len 0 nodes.0), get_or-range_with_len 0 nodes.0 x x below ∙ omega arith) in
+    λ x below. IsAmong-Contains all x (x, omega (arith, length-range_with_len 0 nodes.0), get_or-range_with_len 0 nodes.0 x x below ∙ omega arith) in
     let within : IsWithin (root ∷ ring) all = λ x i. elim i [ inl same ↦ among x (omega (arith, root_in)) | inr j ↦ among x (r.only x j).0 ] in
     let le : length (root ∷ ring) ≤ length all = length-within (root ∷ ring) all r.once within in
     omega (arith, le, length-range_with_len 0 nodes.0)

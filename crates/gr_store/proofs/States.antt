@@ -1,7 +1,6 @@
 -- What is kept of a store's state by its calls.
 use Rattle.std.proofs.Common.{◌≡◌, ℕ, ◌+◌, ◌-◌, ◌<◌, ◌≤◌, List, [], ◌∷◌, ◌++◌, Option, Some, None, MatchOption, zero, suc, length, get_or, take, drop, set, refl, sym, ◌∙◌, ap, subst, arith}
-use Rattle.std.specs.Prelude.{IsTrue, true, false, ◌↔◌, ◌^◌}
-use Rattle.std.proofs.lemmas.Bool.{false≢true}
+use Rattle.std.specs.Prelude.{◌^◌}
 use Rattle.std.proofs.lemmas.List.{take_all, length-append, length-map, length-set, length-take-le, take_more_set, take-take, take-map, map_push, map-append, get_or-map, get_or-take, get_or_past, take-append-drop, drop_more}
 use Rattle.std.proofs.lemmas.List.Elements.{Contains-push}
 use Rattle.gr_terms.specs.declared.Assertion.{Assertion}
@@ -13,6 +12,7 @@ use Rattle.gr_terms.specs.Networks.{Agrees, AreLinkedSlots, AreLinked, HasValue,
 use Rattle.gr_terms.specs.Networks as net
 use Rattle.gr_terms.specs.Views.{term_of, assertion_of, network_of}
 use Rattle.gr_base.proofs.ListLemmas.{Each-at}
+use Rattle.gr_base.proofs.OrderedPairs.{IsAmong-Contains}
 use Rattle.gr_store.specs.declared.bindings.Bound.{Bound}
 use Rattle.gr_store.specs.declared.kept.Kept.{Kept}
 use Rattle.gr_store.specs.declared.room.Room.{Room}
@@ -24,7 +24,7 @@ use Rattle.gr_store.specs.Solution.{LinkedTerms, Solves, SlotsBelow, ValuesBelow
 use Rattle.gr_store.specs.State.{assertions_of, terms_before, joins_before, first_bound, IsRising, IsHistory, IsState}
 use Rattle.gr_store.proofs.Trails.{root_by-name}
 use Rattle.gr_terms.proofs.ViewLemmas.{term_from}
-use Rattle.gr_store.proofs.Members.{IsAmong-contains, Contains-network, by_equate}
+use Rattle.gr_store.proofs.Members.{Contains-network, by_equate}
 use Rattle.gr_store.proofs.Solutions.{joined_slots, refuses, IsLinked-part, grown}
 use Rattle.gr_store.proofs.History.{IsRising-in, index_now, IsHistory-push, IsHistory-undo}
 
@@ -42,10 +42,10 @@ MentionsAll-push vars slots [] x all one = (one, tt)
 MentionsAll-push vars slots (y ∷ net) x all one = (all.0, MentionsAll-push vars slots net x all.1 one)
 
 pub slots_below : (vars slots n : ℕ) (net : List Assertion) → MentionsAll vars slots net → slots ≤ n → SlotsBelow n net
-slots_below vars slots n net all le s attr a h = let m : Mentions vars slots (Entry s attr a) = Each-at (Mentions vars slots) net (Entry s attr a) all (IsAmong-contains net (Entry s attr a) h) in omega (arith, m.0)
+slots_below vars slots n net all le s attr a h = let m : Mentions vars slots (Entry s attr a) = Each-at (Mentions vars slots) net (Entry s attr a) all (IsAmong-Contains net (Entry s attr a) h) in omega (arith, m.0)
 
 pub values_below : (vars slots n : ℕ) (net : List Assertion) → MentionsAll vars slots net → vars ≤ n → ValuesBelow n net
-values_below vars slots n net all le s attr a h = let m : Mentions vars slots (Entry s attr a) = Each-at (Mentions vars slots) net (Entry s attr a) all (IsAmong-contains net (Entry s attr a) h) in omega (arith, m.1)
+values_below vars slots n net all le s attr a h = let m : Mentions vars slots (Entry s attr a) = Each-at (Mentions vars slots) net (Entry s attr a) all (IsAmong-Contains net (Entry s attr a) h) in omega (arith, m.1)
 
 pub entry_attributes-append : (net more : List Assertion) → entry_attributes (net ++ more) ≡ entry_attributes net ++ entry_attributes more
 entry_attributes-append [] more = refl
@@ -165,13 +165,6 @@ module _ (base : ℕ) (list : List Assertion) (f : Term → Term) (g : SlotId �
       → MatchOption r ((x : net.Term ℕ) → HasValue (network_of list) slot.0 attr.0 x → ⊥) (λ value. IsFirstValue (network_of list) slot.0 attr.0 (term_of value))
   entry_answer None slot_in below none = entry_none none
   entry_answer (Some value) slot_in below first = entry_first value slot_in below first
-
--- a test that is true, and one that is false
-pub iff_true : {P : Type 0} → P → IsTrue true ↔ P
-iff_true p = (λ h. p, λ h. refl)
-
-pub iff_false : {P : Type 0} → (P → ⊥) → IsTrue false ↔ P
-iff_false not_p = (λ h. absurd (false≢true h), λ p. absurd (not_p p))
 
 -- the numbers kept with an assertion are within the trails
 pub joins_in : (kept : List Kept) (i : ℕ) (d : Kept) (n : ℕ) → i < length kept → IsRising (joins_before kept) n → (get_or kept i d).joins ≤ n

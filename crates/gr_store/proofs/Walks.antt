@@ -3,9 +3,9 @@ use Rattle.std.proofs.Common.{◌≡◌, ◌≢◌, ℕ, ◌+◌, ◌<◌, inl, 
 use Rattle.std.proofs.lemmas.Bool.{cases_lt}
 use Rattle.std.proofs.lemmas.List.{drop_more, take_more, take_all, drop_all, length-take-le}
 use Rattle.gr_base.specs.Lists.{IsAmong}
+use Rattle.gr_base.proofs.OrderedPairs.{IsAmong-Contains}
 use Rattle.gr_store.specs.declared.bindings.Bound.{Bound}
 use Rattle.gr_store.specs.Rings.{next_of, ring_of, IsWalk, HasRing, HasWalked}
-use Rattle.gr_store.proofs.Members.{IsAmong-contains}
 use Rattle.gr_store.proofs.RingLemmas.{length-ring}
 
 pub HasWalked-start : (nodes : ℕ × List Bound) (root : ℕ) → HasRing nodes root → root < nodes.0 → HasWalked nodes root root 0
@@ -26,7 +26,7 @@ module _ (nodes : ℕ × List Bound) (root at i next : ℕ) (r : HasRing nodes r
   goes_on below = subst (λ (list : List ℕ). IsWalk (next_of nodes) at list root) (drop_more (ring_of nodes.1 root) i next below) w.rest
 
   member_at : i < length (ring_of nodes.1 root) → get_or (ring_of nodes.1 root) i next ≡ next → IsAmong (ring_of nodes.1 root) next
-  member_at below here = IsAmong-contains (ring_of nodes.1 root) next (i, below, here)
+  member_at below here = IsAmong-Contains (ring_of nodes.1 root) next (i, below, here)
 
   -- where the walk comes back, it has been at each node of the ring
   pub walk_ends : next ≡ root → take i (ring_of nodes.1 root) ≡ ring_of nodes.1 root

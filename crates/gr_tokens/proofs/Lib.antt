@@ -9,3 +9,4 @@ pub mod SomeAnswer
 pub mod SpanLemmas
 pub mod TextLemmas
 pub mod Spellings
+pub mod CutLengths

@@ -1,7 +1,7 @@
 -- Signs at the front of some bytes.
 use Rattle.std.specs.Prelude.{◌≡◌, ◌≢◌, ℕ, suc, ◌+◌, ◌≤◌, List, [], ◌∷◌, ◌++◌, length, take, drop, Bool, true, false, cond, ◌==◌, ◌||◌, ◌&&◌, if◌then◌else◌, Some, None, ◌⊎◌, refl}
 use Rattle.std.proofs.Common.{sym, ap, ◌∙◌, subst, inl, inr, arith, get_or, lit≤}
-use Rattle.std.proofs.lemmas.Bool.{eqb-true, ne_eqb}
+use Rattle.std.proofs.lemmas.Bool.{eqb-true, ne_eqb, or_from}
 use Rattle.std.proofs.lemmas.List.{take-append-drop, length-take-le}
 use Rattle.std.proofs.lemmas.Option.{same_Some, none-some}
 use Rattle.gr_base.specs.Lists.{IsAmong}
@@ -200,13 +200,9 @@ lones a bs =
     one_of (LoneWidth bs) a 125 (lone_at 125 bs (IsAmong-slice_get signs 23 (125 ∷ []) refl) refl) (λ n12.
     inl (ap (λ v. if v then 1 else 0) (none n1 n2 n3 n4 n5 n6 n7 n8 n9 n10 n11 n12))))))))))))))
   where
-    both : (x y : Bool) → x ≡ false → y ≡ false → (x || y) ≡ false
-    both true y p q = p
-    both false y p q = q
-
     none : (a == 60) ≡ false → (a == 59) ≡ false → (a == 58) ≡ false → (a == 61) ≡ false → (a == 124) ≡ false → (a == 33) ≡ false → (a == 40) ≡ false → (a == 41) ≡ false → (a == 91) ≡ false → (a == 93) ≡ false → (a == 123) ≡ false → (a == 125) ≡ false → is_lone_sign a ≡ false
     none n1 n2 n3 n4 n5 n6 n7 n8 n9 n10 n11 n12 =
-        both (a == 60) _ n1 (both (a == 59) _ n2 (both (a == 58) _ n3 (both (a == 61) _ n4 (both (a == 124) _ n5 (both (a == 33) _ n6 (both (a == 40) _ n7 (both (a == 41) _ n8 (both (a == 91) _ n9 (both (a == 93) _ n10 (both (a == 123) (a == 125) n11 n12))))))))))
+        or_from (a == 60) _ n1 (or_from (a == 59) _ n2 (or_from (a == 58) _ n3 (or_from (a == 61) _ n4 (or_from (a == 124) _ n5 (or_from (a == 33) _ n6 (or_from (a == 40) _ n7 (or_from (a == 41) _ n8 (or_from (a == 91) _ n9 (or_from (a == 93) _ n10 (or_from (a == 123) (a == 125) n11 n12))))))))))
 
 -- four bytes of which the first begins no longer sign
 plain : (a b c d : ℕ) → (a == 45) ≡ false → (a == 62) ≡ false → (a == 46) ≡ false → (a == 44) ≡ false → sign_width a b c d ≡ (if is_lone_sign a then 1 else 0)

@@ -2,7 +2,7 @@
 use Rattle.std.specs.Prelude.{◌≡◌, ◌≢◌, ℕ, zero, suc, ◌+◌, ◌<◌, ◌≤◌, List, [], ◌∷◌, ◌++◌, length, take, drop, Result, Ok, Err, Bool, true, false, ◌==◌, ◌||◌, ◌&&◌, ◌⊎◌, refl}
 use Rattle.std.proofs.Common.{sym, ap, ◌∙◌, subst, inl, inr, arith, get_or, eq-eqb, append_assoc}
 use Rattle.std.specs.Str.{IsUtf8, is_utf8, IsValidUpTo}
-use Rattle.std.proofs.lemmas.Bool.{false≢true, cases_Bool, cases_lt, eqb-true}
+use Rattle.std.proofs.lemmas.Bool.{false≢true, cases_Bool, cases_lt, eqb-true, and_from}
 use Rattle.std.proofs.lemmas.List.{take-append-drop, take_all, length-take-le, length-drop}
 use Rattle.std.proofs.lemmas.Str.{IsUtf8-nil, IsUtf8-from_is_utf8, is_utf8-from_IsUtf8}
 use Rattle.gr_base.specs.Lists.{Each}
@@ -18,7 +18,7 @@ use Rattle.gr_tokens.specs.Answers.{IsRight}
 use Rattle.gr_tokens.specs.Fronts.{EndsWord, EndsInside, BeginsWith}
 use Rattle.gr_tokens.proofs.Openers.{next_some}
 use Rattle.gr_tokens.proofs.Runs.{Ends}
-use Rattle.gr_tokens.proofs.WordFronts.{begins-take, and_both, word_begins, word_long, variable_begins, variable_long, variable_none}
+use Rattle.gr_tokens.proofs.WordFronts.{begins-take, word_begins, word_long, variable_begins, variable_long, variable_none}
 use Rattle.gr_tokens.proofs.StringFronts.{string_begins, string_none}
 use Rattle.gr_tokens.proofs.Signs.{width_of, sign_begins, sign_none}
 use Rattle.gr_tokens.proofs.OneAnswer.{IsEnd, no_gap}
@@ -54,7 +54,7 @@ word_run : (bytes : List ℕ) → (n : ℕ) × WordRun bytes n
 word_run [] = (0, record { within = omega arith; is = refl; ends = tt })
 word_run (b ∷ bytes) = elim (cases_Bool (is_word_byte b || ((b == 45) && begins_with_word_byte bytes))) [
   | inl h ↦ let r = word_run bytes in
-      (suc r.0, record { within = let w = r.1.within in omega arith; is = and_both _ (is_word_rest (take r.0 bytes)) (goes_to b bytes r.0 r.1.ends h) r.1.is; ends = r.1.ends })
+      (suc r.0, record { within = let w = r.1.within in omega arith; is = and_from _ (is_word_rest (take r.0 bytes)) (goes_to b bytes r.0 r.1.ends h) r.1.is; ends = r.1.ends })
   | inr h ↦ (0, record { within = omega arith; is = refl; ends = h })
 ]
 

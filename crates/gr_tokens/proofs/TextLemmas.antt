@@ -3,7 +3,7 @@ use Rattle.std.specs.Prelude.{◌≡◌, ℕ, suc, ◌+◌, ◌<◌, ◌≤◌, 
 use Rattle.std.proofs.Common.{sym, ap, ◌∙◌, subst, inl, inr, arith, get_or, append_assoc, append-nil, lit<, le-leb}
 use Rattle.std.specs.Str.{IsUtf8, IsCharBoundary}
 use Rattle.std.proofs.Math.Seq.{take-append_seam, drop-append_seam}
-use Rattle.std.proofs.lemmas.Bool.{and_parts, or_cases, eqb-true, leb-true, cases_lt, cases_Bool, false≢true}
+use Rattle.std.proofs.lemmas.Bool.{and_parts, or_cases, eqb-true, leb-true, cases_lt, cases_Bool, false≢true, and_from, or_right}
 use Rattle.std.proofs.lemmas.List.{length-append}
 use Rattle.std.proofs.lemmas.Str.{IsUtf8-take, IsUtf8-drop, IsCharBoundary-end, IsCharBoundary-before_ascii, IsCharBoundary-after_ascii}
 use Rattle.gr_base.specs.Lists.{IsAmong, Each}
@@ -14,7 +14,7 @@ use Rattle.gr_tokens.specs.declared.Kind.TheVariants.{Word, Str, Var, Punct}
 use Rattle.gr_tokens.specs.declared.Token.{Token}
 use Rattle.gr_tokens.specs.Tokens.{signs, Writes, IsNext, IsCut, nothing, a_gap, a_token, IsGap, blank, comment, is_blank, EndsLine}
 use Rattle.gr_tokens.specs.Spans.{slice_of}
-use Rattle.gr_tokens.proofs.WordFronts.{and_both, begins-append, is_word_rest-append}
+use Rattle.gr_tokens.proofs.WordFronts.{begins-append, is_word_rest-append}
 use Rattle.gr_tokens.proofs.SpanLemmas.{slice_is, further}
 
 -- the text may be cut behind its front
@@ -77,14 +77,10 @@ gap_cuts own rest u (comment inside o each ends) = line_cuts own rest ends
 
 high_word : (b : ℕ) → 128 ≤ b → is_word_byte b ≡ true
 high_word b h = elim (cases_Bool (nat_le 128 b)) [
-  | inl e ↦ or_last _ (nat_le 128 b) e
+  | inl e ↦ or_right _ (nat_le 128 b) e
   | inr n ↦ absurd (false≢true (sym n ∙ le_true h))
 ]
   where
-    or_last : (x y : Bool) → y ≡ true → (x || y) ≡ true
-    or_last true y e = refl
-    or_last false y e = e
-
     le_true : 128 ≤ b → nat_le 128 b ≡ true
     le_true h = le-leb 128 b h
 
@@ -95,8 +91,8 @@ word_cuts front w (b ∷ rest) is most = elim (cases_lt b 128) [
   | inl low ↦ cuts_before (front ++ w) b rest low
   | inr high ↦
       let parts = and_parts (begins_with_word_byte w) (is_word_rest w) is in
-      let word : is_word_rest (b ∷ []) ≡ true = and_both _ true (ap (λ v. v || ((b == 45) && false)) (high_word b high)) refl in
-      absurd (most rest b (and_both _ _ (begins-append w (b ∷ []) parts.0) (is_word_rest-append w (b ∷ []) parts.1 word)) refl)
+      let word : is_word_rest (b ∷ []) ≡ true = and_from _ true (ap (λ v. v || ((b == 45) && false)) (high_word b high)) refl in
+      absurd (most rest b (and_from _ _ (begins-append w (b ∷ []) parts.0) (is_word_rest-append w (b ∷ []) parts.1 word)) refl)
 ]
 
 -- one more byte behind a token is too much for another of its kind

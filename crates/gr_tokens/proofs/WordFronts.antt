@@ -1,7 +1,7 @@
 -- Words and variables at the front of some bytes.
-use Rattle.std.specs.Prelude.{◌≡◌, ℕ, zero, suc, ◌+◌, ◌<◌, ◌≤◌, List, [], ◌∷◌, ◌++◌, length, take, drop, Bool, true, false, ◌==◌, ◌||◌, ◌&&◌, refl}
+use Rattle.std.specs.Prelude.{◌≡◌, ℕ, zero, suc, ◌+◌, ◌<◌, ◌≤◌, List, [], ◌∷◌, ◌++◌, length, take, drop, true, false, ◌==◌, ◌||◌, ◌&&◌, refl}
 use Rattle.std.proofs.Common.{sym, ap, ◌∙◌, subst, inl, inr, arith}
-use Rattle.std.proofs.lemmas.Bool.{false≢true, and_parts, or_cases}
+use Rattle.std.proofs.lemmas.Bool.{false≢true, and_parts, or_cases, and_from, or_right}
 use Rattle.std.proofs.lemmas.List.{take-append-drop, length-take-le}
 use Rattle.std.proofs.Math.Seq.{take-add}
 use Rattle.gr_base.proofs.ListLemmas.{same_tail}
@@ -11,14 +11,6 @@ use Rattle.gr_tokens.specs.Tokens.{IsNext, HasNoToken}
 use Rattle.gr_tokens.specs.Fronts.{EndsWord, BeginsWith}
 use Rattle.gr_tokens.proofs.Openers.{next_from, none_from, too_long}
 
-or_right : (a b : Bool) → b ≡ true → (a || b) ≡ true
-or_right true b h = refl
-or_right false b h = h
-
-pub and_both : (a b : Bool) → a ≡ true → b ≡ true → (a && b) ≡ true
-and_both true b p q = q
-and_both false b p q = p
-
 pub begins-append : (xs ys : List ℕ) → begins_with_word_byte xs ≡ true → begins_with_word_byte (xs ++ ys) ≡ true
 begins-append [] ys h = absurd (false≢true h)
 begins-append (x ∷ xs) ys h = h
@@ -27,14 +19,14 @@ begins-append (x ∷ xs) ys h = h
 goes_on : (b : ℕ) (xs ys : List ℕ) → (is_word_byte b || ((b == 45) && begins_with_word_byte xs)) ≡ true → (is_word_byte b || ((b == 45) && begins_with_word_byte (xs ++ ys))) ≡ true
 goes_on b xs ys h = elim (or_cases (is_word_byte b) _ h) [
   | inl w ↦ ap (λ v. v || ((b == 45) && begins_with_word_byte (xs ++ ys))) w
-  | inr d ↦ let p = and_parts (b == 45) _ d in or_right (is_word_byte b) _ (and_both (b == 45) _ p.0 (begins-append xs ys p.1))
+  | inr d ↦ let p = and_parts (b == 45) _ d in or_right (is_word_byte b) _ (and_from (b == 45) _ p.0 (begins-append xs ys p.1))
 ]
 
 pub is_word_rest-append : (xs ys : List ℕ) → is_word_rest xs ≡ true → is_word_rest ys ≡ true → is_word_rest (xs ++ ys) ≡ true
 is_word_rest-append [] ys p q = q
 is_word_rest-append (x ∷ xs) ys p q =
     let r = and_parts (is_word_byte x || ((x == 45) && begins_with_word_byte xs)) (is_word_rest xs) p in
-    and_both (is_word_byte x || ((x == 45) && begins_with_word_byte (xs ++ ys))) (is_word_rest (xs ++ ys)) (goes_on x xs ys r.0) (is_word_rest-append xs ys r.1 q)
+    and_from (is_word_byte x || ((x == 45) && begins_with_word_byte (xs ++ ys))) (is_word_rest (xs ++ ys)) (goes_on x xs ys r.0) (is_word_rest-append xs ys r.1 q)
 
 -- no part of a word goes past bytes behind which no word goes on
 pub word_most : (front more w rest : List ℕ) → is_word_rest front ≡ true → EndsWord rest → front ++ more ≡ w ++ rest → length front ≤ length w
@@ -47,11 +39,11 @@ word_most (b ∷ front) more (c ∷ w) rest f ends e =
     omega (arith, less)
 
 word_next : (w rest : List ℕ) → begins_with_word_byte w ≡ true → is_word_rest w ≡ true → EndsWord rest → IsNext Word w w rest
-word_next w rest begins is ends = next_from Word w w rest (refl, and_both _ _ begins is)
+word_next w rest begins is ends = next_from Word w w rest (refl, and_from _ _ begins is)
     (λ t front more e v. word_most front more w rest (subst (λ z. is_word_rest z ≡ true) (sym v.0) (and_parts (begins_with_word_byte t) _ v.1).1) ends e)
 
 var_next : (w rest : List ℕ) → begins_with_word_byte w ≡ true → is_word_rest w ≡ true → EndsWord rest → IsNext Var w (63 ∷ w) rest
-var_next w rest begins is ends = next_from Var w (63 ∷ w) rest (refl, and_both _ _ begins is)
+var_next w rest begins is ends = next_from Var w (63 ∷ w) rest (refl, and_from _ _ begins is)
     (λ t front more e v.
     let less = word_most t more w rest (and_parts (begins_with_word_byte t) _ v.1).1 ends (same_tail 63 63 (t ++ more) (w ++ rest) (ap (λ z. z ++ more) (sym v.0) ∙ e)) in
     omega (arith, less, ap length v.0))

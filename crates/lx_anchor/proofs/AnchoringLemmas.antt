@@ -3,8 +3,9 @@ use Rattle.std.specs.Prelude.{◌≡◌, ◌≢◌, ℕ, zero, suc, ◌+◌, ◌
 use Rattle.std.specs.List.{AllZip}
 use Rattle.std.proofs.Common.{inl, ap, ap₂, subst, sym, ◌∙◌, arith}
 use Rattle.std.proofs.lemmas.Option.{same_Some, slice_get_within}
+use Rattle.std.proofs.lemmas.List.{length-map}
 use Rattle.gr_base.specs.Lists.{IsAmong, Each}
-use Rattle.gr_base.proofs.ListLemmas.{IsAmong-map}
+use Rattle.gr_base.proofs.ListLemmas.{IsAmong-map, map-nil}
 use Rattle.gr_terms.specs.Canonical.{map_literal}
 use Rattle.gr_terms.specs.Constants.{ANCHOR, COANCHOR}
 use Rattle.gr_terms.specs.LiteralViews.{literal_of, literals_of}
@@ -113,10 +114,6 @@ zip-numbers t e [] (l ∷ ls) h = absurd h
 zip-numbers t e (n ∷ ns) [] h = absurd h
 zip-numbers t e (n ∷ ns) (l ∷ ls) h = ap₂ (λ k ks. k ∷ ks) h.0.0 (zip-numbers t e ns ls h.1)
 
-map-empty : {A B : Type 0} (f : A → B) (xs : List A) → map f xs ≡ [] → xs ≡ []
-map-empty f [] h = refl
-map-empty f (x ∷ xs) h = cc
-
 append-empty : {A : Type 0} (xs ys : List A) → xs ++ ys ≡ [] → (xs ≡ []) × (ys ≡ [])
 append-empty [] ys h = (refl, h)
 append-empty (x ∷ xs) ys h = cc
@@ -167,12 +164,12 @@ module _ (class : ClassTrees) (at n : ℕ) (t : Tree) (e : Entry) (there : slice
         let empty : new.sem ≡ [] = no-items new.sem none in
         let over = anchored.over well.nodes in
         let written-empty = sym over.literals ∙ ap literals_of empty in
-        let parts = append-empty (map (map_literal tree_term) (literals_of t.sem)) (map (map_literal entry_term) (literals_of e.sem)) (map-empty (map_literal over.written) _ written-empty) in
+        let parts = append-empty (map (map_literal tree_term) (literals_of t.sem)) (map (map_literal entry_term) (literals_of e.sem)) (map-nil (map_literal over.written) _ written-empty) in
         record {
           t = t;
           tree = there;
           makes = makes;
-          bare = (map-empty literal_of t.sem (map-empty (map_literal tree_term) (literals_of t.sem) parts.0), map-empty literal_of e.sem (map-empty (map_literal entry_term) (literals_of e.sem) parts.1));
+          bare = (map-nil literal_of t.sem (map-nil (map_literal tree_term) (literals_of t.sem) parts.0), map-nil literal_of e.sem (map-nil (map_literal entry_term) (literals_of e.sem) parts.1));
           lemma_is = lemma-is;
           class_is = name-is;
           number_is = number-is ∙ (let next : at + 1 ≡ suc at = omega arith in next);
@@ -185,10 +182,6 @@ there-is f [] i lt = absurd (omega (arith, lt))
 there-is f (x ∷ xs) zero lt = (f x, refl)
 there-is f (x ∷ xs) (suc i) lt = there-is f xs i (omega (arith, lt))
 
-mapped-long : {A B : Type 0} (f : A → B) (xs : List A) → length (map f xs) ≡ length xs
-mapped-long f [] = refl
-mapped-long f (x ∷ xs) = ap suc (mapped-long f xs)
-
 module _ (classes : List ClassTrees) (es : List Entry) (n m : ℕ) (e : Entry) (at : slice_get es n ≡ Some e) (is : m ≡ n) (class : ClassTrees) (family : IsFamily classes es n class) (k : ℕ) (ls : List LexicalTree) (done : AreDone classes es n k ls) where
   pub family-skip : IsFound class k m e None → AreDone classes es n (k + 1) ls
   family-skip none = done-skip classes es n e at class (family e at) k ls done none
@@ -200,7 +193,7 @@ module _ (classes : List ClassTrees) (es : List Entry) (n m : ℕ) (e : Entry) (
       subst (λ xs. AreDone classes es n (k + 1) xs) (sym are) (done-push classes es n e at class (family e at) k ls done there.0 there.1 l both.0 both.1 both.2)
 
   pub family-all : length class.trees ≤ k → AreDone classes es (n + 1) 0 ls
-  family-all le = done-family classes es n e at class (family e at) k ls (omega (arith, mapped-long (λ (x : SetEntry). x.tree) class.trees, le)) done
+  family-all le = done-family classes es n e at class (family e at) k ls (omega (arith, length-map class.trees (λ (x : SetEntry). x.tree), le)) done
 
   pub family-refused : (r : AnchorRefusal) → IsRefused class k e r → IsAnchorRefusal classes es r
   family-refused r h = refused classes es n e at class (family e at) k ls done r h

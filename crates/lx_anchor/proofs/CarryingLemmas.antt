@@ -1,12 +1,13 @@
 -- A lexical tree's network agrees with more assertions just where that of its tree and its entry does.
 use Rattle.std.specs.Prelude.{◌≡◌, ℕ, zero, suc, ◌+◌, List, [], ◌∷◌, ◌++◌, ◌⊎◌, map, Some, slice_get, ◌↔◌, refl}
 use Rattle.std.specs.List.{AllZip}
-use Rattle.std.proofs.Common.{inl, inr, ap, ap₂, subst, sym, ◌∙◌, arith}
-use Rattle.std.proofs.lemmas.List.{map-append}
+use Rattle.std.proofs.Common.{inl, inr, ap, subst, sym, ◌∙◌, arith}
 use Rattle.std.proofs.lemmas.Option.{none-some, same_Some}
 use Rattle.gr_base.specs.Lists.{IsAmong, Each, gathered}
-use Rattle.gr_base.specs.Forests.{Forest, empty, tree, labels, map_forest, numbered}
-use Rattle.gr_base.proofs.ListLemmas.{Each-at, IsAmong-append, IsAmong-append_left, IsAmong-append_right, IsAmong-map, IsAmong-map_from, IsAmong-slice_get, IsAmong-gathered}
+use Rattle.gr_base.specs.Forests.{labels, map_forest, numbered}
+use Rattle.gr_base.proofs.ListLemmas.{Each-at, IsAmong-append, IsAmong-append_left, IsAmong-append_right, IsAmong-map, IsAmong-map_from, IsAmong-slice_get, IsAmong-gathered, slice_get-mapped}
+use Rattle.gr_base.proofs.ForestLemmas.{labels-map}
+use Rattle.gr_base.proofs.Zips.{labels-alike}
 use Rattle.gr_terms.specs.BagViews.{pairs_of}
 use Rattle.gr_terms.specs.Canonical.{Node, Decorated, IsMet, node_slots, tree_slots}
 use Rattle.gr_terms.specs.Constants.{ANCHOR}
@@ -27,15 +28,8 @@ use Rattle.lx_anchor.specs.Networks.{Variable, Slot, in_tree, slots_in, anchored
 use Rattle.lx_anchor.specs.TreesOver.{IsTreeOver, ListsNode, ListsSlot}
 use Rattle.lx_anchor.proofs.AnchoredNetwork.{JointAt, base-linked, entry-is_joint, joint-value, no-equation, slots-joined, stands}
 use Rattle.lx_anchor.proofs.Marking.{number-there}
-use Rattle.lx_anchor.proofs.ShapeKeeping.{zip-labels}
-use Rattle.lx_anchor.proofs.WritingLemmas.{slice_get-mapped}
 
 -- ---- lists and forests
-
-labels-map : {A B : Type 0} (h : A → B) (f : Forest A) → labels (map_forest h f) ≡ map h (labels f)
-labels-map h empty = refl
-labels-map h (tree a kids more) =
-    ap (λ xs. h a ∷ xs) (ap₂ (λ xs ys. xs ++ ys) (labels-map h kids) (labels-map h more) ∙ sym (map-append h (labels kids) (labels more)))
 
 map-place : {A B : Type 0} (h : A → B) (xs : List A) (i : ℕ) (y : B) → slice_get (map h xs) i ≡ Some y → (x : A) × (slice_get xs i ≡ Some x) × (y ≡ h x)
 map-place h [] i y at = absurd (none-some y at)
@@ -95,7 +89,7 @@ module _ (t : Tree) (e : Entry) (new : Tree) (nodes : AreTreeNodes t.nodes) (anc
       ∙ ap (map slots_in) (labels-map (λ p. slots_at p.0) (numbered 0 D.nodes) ∙ ap (map (λ p. slots_at p.0)) (labels-numbered 0 D.nodes))
 
   zipped : AllZip (ListsNode N W) (labels U.nodes) (labels over.nodes.forest)
-  zipped = zip-labels (ListsNode N W) U.nodes over.nodes.forest over.bags
+  zipped = labels-alike (ListsNode N W) U.nodes over.nodes.forest over.bags
 
   abbrev bag_in : Part → Node BagPairs → BagPairs
   bag_in own_part b = b.own

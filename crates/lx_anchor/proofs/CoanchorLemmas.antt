@@ -6,20 +6,18 @@ use Rattle.std.proofs.lemmas.Bool.Decides.{eqb_tells}
 use Rattle.std.proofs.lemmas.List.{take_all, map-append}
 use Rattle.std.proofs.lemmas.Option.{none-some, same_Some, slice_get_within}
 use Rattle.gr_base.specs.Lists.{IsAmong, Each}
-use Rattle.gr_base.proofs.ListLemmas.{drop-slice_get}
-use Rattle.gr_feats.proofs.LoadLemmas.{first_items}
+use Rattle.gr_base.proofs.ListLemmas.{drop-slice_get, take-one_more, slice_get-mapped}
+use Rattle.gr_base.proofs.Zips.{AllZip-append}
 use Rattle.gr_terms.specs.Constants.{COANCHOR, NAME}
 use Rattle.gr_terms.specs.Canonical.{Node}
 use Rattle.gr_terms.specs.declared.Sym.{Sym}
 use Rattle.td_tree.specs.TreeViews.{Pairs}
 use Rattle.td_tree.specs.declared.Tree.{Tree}
 use Rattle.td_tree.specs.declared.TreeNode.{TreeNode}
-use Rattle.td_model.proofs.SameForms.{AllZip-append}
 use Rattle.tg_grammar.specs.Marks.{is_marked, lists_at, name_of, node_lists, numbers_from, value_of}
 use Rattle.lx_lexicon.specs.declared.entry.Entry.{Entry}
 use Rattle.lx_anchor.specs.Anchoring.{AreLemmas, HasLeaf, IsGiven, co_leaves, lemma_for}
 use Rattle.lx_anchor.proofs.Marking.{number-there, there-number}
-use Rattle.lx_anchor.proofs.WritingLemmas.{slice_get-mapped}
 
 -- the name of a node
 abbrev pub node_name : TreeNode → Option ℕ
@@ -119,7 +117,7 @@ module _ (t : Tree) (e : Entry) where
       → numbers_from 0 (is_marked COANCHOR) (node_lists (take (count + 1) t.nodes)) ≡ numbers_from 0 (is_marked COANCHOR) (node_lists (take count t.nodes)) ++ more-numbers count x
   first-lists count x at =
       let number : 0 + length (node_lists (take count t.nodes)) ≡ count = as-many t.nodes count x at in
-      ap (λ xs. numbers_from 0 (is_marked COANCHOR) (node_lists xs)) (first_items t.nodes count x at)
+      ap (λ xs. numbers_from 0 (is_marked COANCHOR) (node_lists xs)) (take-one_more t.nodes count x at)
       ∙ ap (numbers_from 0 (is_marked COANCHOR)) (map-append lists_at (take count t.nodes) (x ∷ []))
       ∙ numbers-push 0 (is_marked COANCHOR) (node_lists (take count t.nodes)) (lists_at x)
       ∙ ap (λ k. numbers_from 0 (is_marked COANCHOR) (node_lists (take count t.nodes)) ++ (if is_marked COANCHOR (lists_at x) then (k ∷ []) else [])) number

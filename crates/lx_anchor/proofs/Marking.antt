@@ -1,7 +1,6 @@
 -- The numbers of nodes of a mark, and what a joint bag keeps of a bag.
 use Rattle.std.specs.Prelude.{◌≡◌, ℕ, zero, suc, ◌+◌, List, [], ◌∷◌, Bool, true, false, Option, Some, None, slice_get, if◌then◌else◌, refl}
 use Rattle.std.proofs.Common.{inl, inr, ap, subst, sym, ◌∙◌, arith}
-use Rattle.std.proofs.lemmas.Bool.Decides.{eqb_tells}
 use Rattle.std.proofs.lemmas.Option.{none-some, same_Some}
 use Rattle.gr_base.specs.Lists.{IsAmong}
 use Rattle.gr_terms.specs.BagViews.{pairs_of}
@@ -16,7 +15,7 @@ use Rattle.gr_feats.specs.CanonicalBags.{StandsFor}
 use Rattle.td_tree.specs.Trees.{BagPairs}
 use Rattle.td_tree.specs.TreeViews.{lists_of}
 use Rattle.tg_grammar.specs.Marks.{is_number, mark_name, name_of, numbers_from, value_of}
-use Rattle.tg_grammar.proofs.MarkLemmas.{value_of-among, value_of-lacks}
+use Rattle.tg_grammar.proofs.MarkLemmas.{value_of-among, value_of-lacks, value_there}
 use Rattle.tg_grammar.specs.NamedMarks.{IsNamedMark}
 use Rattle.lx_anchor.specs.Writings.{IsJoint}
 use Rattle.lx_anchor.proofs.ShapeKeeping.{Keeps}
@@ -48,23 +47,10 @@ there-number n test (y ∷ ys) (suc i) x at e =
 
 -- ---- values of a bag
 
-pub value-among : (bag : BagPairs) (a : ℕ) (z : net.Term ℕ) → value_of (pairs_of bag) a ≡ Some z → (y : Term) × IsAmong bag (record { 0 = a }, y) × (z ≡ term_of y)
-value-among [] a z e = absurd (none-some z e)
-value-among (p ∷ ps) a z e = elim (eqb_tells p.0.0 a) [
-  | inl h ↦
-      let first : Some (term_of p.1) ≡ Some z = sym (ap (λ b. if b then Some (term_of p.1) else value_of (pairs_of ps) a) h.0) ∙ e in
-      let attr : a ≡ p.0.0 = sym h.1 in
-      (p.1, inl (λ i. (record { 0 = attr i }, p.1)), sym (same_Some (term_of p.1) z first))
-  | inr h ↦
-      let rest : value_of (pairs_of ps) a ≡ Some z = sym (ap (λ b. if b then Some (term_of p.1) else value_of (pairs_of ps) a) h.0) ∙ e in
-      let r = value-among ps a z rest in
-      (r.0, inr r.1, r.2)
-]
-
 module _ (N : List (net.Assertion ℕ ℕ)) (agrees : Agrees N) (bag joint : BagPairs) (h : IsJoint N bag [] joint) where
   name-kept : (a m : ℕ) → value_of (pairs_of bag) a ≡ Some (name m) → value_of (pairs_of joint) a ≡ Some (name m)
   name-kept a m e =
-      let r = value-among bag a (name m) e in
+      let r = value_there bag a (name m) e in
       let stands : StandsFor N (term_of r.0) (Const (record { 0 = m })) = subst (λ z. net.AreLinked N z (name m)) r.2 (same (name m)) in
       value_of-among joint (record { 0 = a }) (Const (record { 0 = m })) h.listed ((h.pairs (record { 0 = a }) (Const (record { 0 = m }))).1 (inl (r.0, r.1, stands)))
 

@@ -4,7 +4,7 @@ use Rattle.std.proofs.Common.{inl, inr, ap, subst, sym, ◌∙◌, arith}
 use Rattle.std.proofs.lemmas.Bool.{cases_lt}
 use Rattle.std.proofs.lemmas.Option.{none-some, same_Some, slice_get_within}
 use Rattle.gr_base.specs.Lists.{IsAmong, Each}
-use Rattle.gr_base.proofs.ListLemmas.{Each-append, Each-at, Each-members, IsAmong-append_left, IsAmong-new_one, IsAmong-slice_get}
+use Rattle.gr_base.proofs.ListLemmas.{Each-append, Each-at, Each-members, IsAmong-append_left, IsAmong-new_one, IsAmong-slice_get, map-nil}
 use Rattle.gr_terms.specs.Canonical.{map_literal}
 use Rattle.gr_terms.specs.LiteralViews.{literal_of, literals_of}
 use Rattle.gr_terms.specs.declared.Sym.{Sym}
@@ -58,10 +58,6 @@ order-push [] l order before = (tt, tt)
 order-push (m ∷ ls) l order before = (Each-append (λ x. IsSooner (place_of m) (place_of x)) ls (l ∷ []) order.0 (before.0, tt), order-push ls l order.1 before.1)
 
 -- ---- literals of a lexical tree
-
-map-empty : {A B : Type 0} (f : A → B) (xs : List A) → map f xs ≡ [] → xs ≡ []
-map-empty f [] e = refl
-map-empty f (x ∷ xs) e = cc
 
 append-empty : {A : Type 0} (xs ys : List A) → xs ++ ys ≡ [] → (xs ≡ []) × (ys ≡ [])
 append-empty [] ys e = (refl, e)
@@ -178,7 +174,7 @@ module _ (classes : List ClassTrees) (es : List Entry) where
           not-bare bare =
               let written = is.tree.written in
               let empty : literals_of l.tree.sem ≡ [] = is.tree.literals ∙ (λ i. map (map_literal written) (map (map_literal tree_term) (literals_of (bare.0 i)) ++ map (map_literal entry_term) (literals_of (bare.1 i)))) in
-              some (map-empty literal_of l.tree.sem empty)
+              some (map-nil literal_of l.tree.sem empty)
 
           pub done-push : AreDone classes es n (k + 1) (ls ++ l ∷ [])
           done-push = record {

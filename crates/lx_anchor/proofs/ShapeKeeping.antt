@@ -1,9 +1,9 @@
 -- A forest whose nodes keep the marks and the names of categories of another one keeps its good shape.
-use Rattle.std.specs.Prelude.{◌≡◌, ℕ, suc, ◌≤◌, List, [], ◌∷◌, ◌++◌, length, Some, ◌||◌, IsTrue, if◌then◌else◌, refl}
+use Rattle.std.specs.Prelude.{◌≡◌, ℕ, suc, ◌≤◌, List, [], ◌∷◌, length, Some, ◌||◌, IsTrue, if◌then◌else◌, refl}
 use Rattle.std.specs.List.{AllZip}
-use Rattle.std.proofs.Common.{inl, inr, subst, sym, ◌∙◌}
-use Rattle.gr_base.specs.Lists.{IsAmong}
+use Rattle.std.proofs.Common.{subst, sym, ◌∙◌}
 use Rattle.gr_base.specs.Forests.{Forest, empty, tree, labels, leaf_labels, inner_labels, AreAlike}
+use Rattle.gr_base.proofs.Zips.{AllZip-append, labels-alike, AllZip-second}
 use Rattle.gr_terms.specs.Constants.{ANCHOR, COANCHOR, FOOT, LEX, SUBST}
 use Rattle.gr_terms.specs.Canonical.{Node}
 use Rattle.td_tree.specs.TreeViews.{Pairs}
@@ -28,18 +28,6 @@ leaf_mark-kept old new k =
 
 -- ---- nodes of forests that are alike
 
-zip-append : {A B : Type 0} (R : A → B → Type 0) (as' bs : List A) (cs ds : List B) → AllZip R as' cs → AllZip R bs ds → AllZip R (as' ++ bs) (cs ++ ds)
-zip-append R [] bs [] ds h k = k
-zip-append R [] bs (c ∷ cs) ds h k = absurd h
-zip-append R (a ∷ as') bs [] ds h k = absurd h
-zip-append R (a ∷ as') bs (c ∷ cs) ds h k = (h.0, zip-append R as' bs cs ds h.1 k)
-
-pub zip-labels : {A B : Type 0} (R : A → B → Type 0) (f : Forest A) (g : Forest B) → AreAlike R f g → AllZip R (labels f) (labels g)
-zip-labels R empty empty h = tt
-zip-labels R empty (tree b others rest) h = absurd h
-zip-labels R (tree a kids more) empty h = absurd h
-zip-labels R (tree a kids more) (tree b others rest) h = (h.0, zip-append R (labels kids) (labels more) (labels others) (labels rest) (zip-labels R kids others h.1) (zip-labels R more rest h.2))
-
 zip-leaves : {A B : Type 0} (R : A → B → Type 0) (f : Forest A) (g : Forest B) → AreAlike R f g → AllZip R (leaf_labels f) (leaf_labels g)
 zip-leaves R empty empty h = tt
 zip-leaves R empty (tree b others rest) h = absurd h
@@ -48,7 +36,7 @@ zip-leaves R (tree a empty more) (tree b empty rest) h = (h.0, zip-leaves R more
 zip-leaves R (tree a empty more) (tree b (tree d others rest') rest) h = absurd h.1
 zip-leaves R (tree a (tree c kids more') more) (tree b empty rest) h = absurd h.1
 zip-leaves R (tree a (tree c kids more') more) (tree b (tree d others rest') rest) h =
-    zip-append R (leaf_labels (tree c kids more')) (leaf_labels more) (leaf_labels (tree d others rest')) (leaf_labels rest) (zip-leaves R (tree c kids more') (tree d others rest') h.1) (zip-leaves R more rest h.2)
+    AllZip-append R (leaf_labels (tree c kids more')) (leaf_labels more) (leaf_labels (tree d others rest')) (leaf_labels rest) (zip-leaves R (tree c kids more') (tree d others rest') h.1) (zip-leaves R more rest h.2)
 
 zip-inner : {A B : Type 0} (R : A → B → Type 0) (f : Forest A) (g : Forest B) → AreAlike R f g → AllZip R (inner_labels f) (inner_labels g)
 zip-inner R empty empty h = tt
@@ -59,15 +47,8 @@ zip-inner R (tree a empty more) (tree b (tree d others rest') rest) h = absurd h
 zip-inner R (tree a (tree c kids more') more) (tree b empty rest) h = absurd h.1
 zip-inner R (tree a (tree c kids more') more) (tree b (tree d others rest') rest) h = (
   h.0,
-  zip-append R (inner_labels (tree c kids more')) (inner_labels more) (inner_labels (tree d others rest')) (inner_labels rest) (zip-inner R (tree c kids more') (tree d others rest') h.1) (zip-inner R more rest h.2),
+  AllZip-append R (inner_labels (tree c kids more')) (inner_labels more) (inner_labels (tree d others rest')) (inner_labels rest) (zip-inner R (tree c kids more') (tree d others rest') h.1) (zip-inner R more rest h.2),
 )
-
-zip-among : {A B : Type 0} (R : A → B → Type 0) (xs : List A) (ys : List B) (y : B) → AllZip R xs ys → IsAmong ys y → (x : A) × IsAmong xs x × R x y
-zip-among R [] [] y h i = absurd i
-zip-among R [] (z ∷ ys) y h i = absurd h
-zip-among R (x ∷ xs) [] y h i = absurd h
-zip-among R (x ∷ xs) (z ∷ ys) y h (inl e) = (x, inl refl, subst (λ w. R x w) (sym e) h.0)
-zip-among R (x ∷ xs) (z ∷ ys) y h (inr i) = let r = zip-among R xs ys y h.1 i in (r.0, inr r.1, r.2)
 
 -- the marks stand at the same numbers
 pub zip-marked : (m n : ℕ) (xs ys : List (Node Pairs)) → AllZip Keeps xs ys → numbers_from n (is_marked m) ys ≡ numbers_from n (is_marked m) xs
@@ -92,7 +73,7 @@ module _ (f g : Forest (Node Pairs)) (alike : AreAlike Keeps f g) where
   one_name-kept x y k (a, root, node) = (a, root-kept f g alike a root, k.category a node)
 
   pub marked-kept : (m : ℕ) → marked m (labels g) ≡ marked m (labels f)
-  marked-kept m = zip-marked m 0 (labels f) (labels g) (zip-labels Keeps f g alike)
+  marked-kept m = zip-marked m 0 (labels f) (labels g) (labels-alike Keeps f g alike)
 
   was : (m : ℕ) (x y : Node Pairs) → Keeps x y → IsTrue (is_marked m y) → IsTrue (is_marked m x)
   was m x y k h = sym (k.marks m) ∙ h
@@ -101,22 +82,22 @@ module _ (f g : Forest (Node Pairs)) (alike : AreAlike Keeps f g) where
   shape-kept good = record {
     root = (good.root.0, root-kept f g alike good.root.0 good.root.1);
     substitutions = λ y i m.
-        let r = zip-among Keeps (labels f) (labels g) y (zip-labels Keeps f g alike) i in
+        let r = AllZip-second Keeps (labels f) (labels g) y (labels-alike Keeps f g alike) i in
         let c = good.substitutions r.0 r.1 (was SUBST r.0 y r.2 m) in
         (c.0, r.2.category c.0 c.1);
     feet = λ y i m.
-        let r = zip-among Keeps (labels f) (labels g) y (zip-labels Keeps f g alike) i in
+        let r = AllZip-second Keeps (labels f) (labels g) y (labels-alike Keeps f g alike) i in
         one_name-kept r.0 y r.2 (good.feet r.0 r.1 (was FOOT r.0 y r.2 m));
     one_anchor = (good.one_anchor.0, marked-kept ANCHOR ∙ good.one_anchor.1);
     few_feet = subst (λ ms. length ms ≤ 1) (sym (marked-kept FOOT)) good.few_feet;
     inner = λ y i.
-        let r = zip-among Keeps (inner_labels f) (inner_labels g) y (zip-inner Keeps f g alike) i in
+        let r = AllZip-second Keeps (inner_labels f) (inner_labels g) y (zip-inner Keeps f g alike) i in
         leaf_mark-kept r.0 y r.2 ∙ good.inner r.0 r.1;
     leaves = λ y i.
-        let r = zip-among Keeps (leaf_labels f) (leaf_labels g) y (zip-leaves Keeps f g alike) i in
+        let r = AllZip-second Keeps (leaf_labels f) (leaf_labels g) y (zip-leaves Keeps f g alike) i in
         leaf_mark-kept r.0 y r.2 ∙ good.leaves r.0 r.1;
     words = λ y i m.
-        let r = zip-among Keeps (labels f) (labels g) y (zip-labels Keeps f g alike) i in
+        let r = AllZip-second Keeps (labels f) (labels g) y (labels-alike Keeps f g alike) i in
         let w = good.words r.0 r.1 (was LEX r.0 y r.2 m) in
         (w.0, r.2.category w.0 w.1, w.2);
   }

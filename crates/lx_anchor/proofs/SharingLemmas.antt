@@ -1,12 +1,12 @@
 -- Equations that are put into a store one by one.
-use Rattle.std.specs.Prelude.{◌≡◌, ℕ, zero, suc, ◌+◌, ◌^◌, ◌<◌, ◌≤◌, List, [], ◌∷◌, ◌++◌, length, take, Some, slice_get, ◌↔◌, Bool, true, false, IsTrue, refl}
+use Rattle.std.specs.Prelude.{◌≡◌, ℕ, ◌+◌, ◌^◌, ◌<◌, ◌≤◌, List, [], ◌∷◌, ◌++◌, length, take, Some, slice_get, ◌↔◌, Bool, true, false, IsTrue, refl}
 use Rattle.std.specs.Bool.{OnTrue, OnFalse}
 use Rattle.std.proofs.Common.{inl, inr, ap, append_assoc, subst, sym, ◌∙◌, arith}
 use Rattle.std.proofs.lemmas.Bool.{false≢true}
 use Rattle.std.proofs.lemmas.List.{append-nil, take_all}
 use Rattle.std.proofs.lemmas.Option.{same_Some}
 use Rattle.gr_base.specs.Lists.{IsAmong, IsWithin, Each}
-use Rattle.gr_base.proofs.ListLemmas.{Each-append, Each-at, Each-map, Each-members, IsAmong-append, IsAmong-append_left, IsAmong-append_right, IsAmong-slice_get}
+use Rattle.gr_base.proofs.ListLemmas.{Each-append, Each-at, Each-map, Each-members, IsAmong-append, IsAmong-append_left, IsAmong-append_right, IsAmong-slice_get, take-one_more, slice_get-mapped, IsWithin-take}
 use Rattle.gr_terms.specs.Bags.{IsListed, LacksAttribute}
 use Rattle.gr_terms.specs.Networks.{Agrees}
 use Rattle.gr_terms.specs.Views.{network_of}
@@ -17,7 +17,7 @@ use Rattle.gr_terms.specs.declared.Term.{Term}
 use Rattle.gr_terms.proofs.BagLemmas.{IsListed-value}
 use Rattle.gr_store.specs.Contents.{Contents, Grows, IsMade, accepting}
 use Rattle.gr_feats.specs.Loading.{counted_from}
-use Rattle.gr_feats.proofs.LoadLemmas.{bag_counted, first_items}
+use Rattle.gr_feats.proofs.LoadLemmas.{bag_counted}
 use Rattle.td_tree.specs.Trees.{BagPairs}
 use Rattle.td_tree.specs.declared.Tree.{Tree}
 use Rattle.td_tree.specs.declared.TreeNode.{TreeNode}
@@ -25,7 +25,7 @@ use Rattle.lx_lexicon.specs.declared.entry.Entry.{Entry}
 use Rattle.lx_anchor.specs.Counts.{IsBagBelow, IsNodeBelow}
 use Rattle.lx_anchor.specs.Sharing.{AreEquations, HasClash, HasRoom, IsClashing, IsEquation, IsShared, IsSharing, counted_pairs}
 use Rattle.lx_anchor.proofs.CountLemmas.{bag-grows, term-grows}
-use Rattle.lx_anchor.proofs.WritingLemmas.{counted-length, slice_get-mapped}
+use Rattle.lx_anchor.proofs.WritingLemmas.{counted-length}
 
 -- ---- more equations
 
@@ -98,12 +98,6 @@ value-absent bag attr y old lacks = record {
   few = omega arith;
 }
 
-take-within : {A : Type 0} (n : ℕ) (xs : List A) → IsWithin (take n xs) xs
-take-within zero xs x i = absurd i
-take-within (suc n) [] x i = i
-take-within (suc n) (y ∷ ys) x (inl e) = inl e
-take-within (suc n) (y ∷ ys) x (inr i) = inr (take-within n ys x i)
-
 -- ---- the pairs of a bag
 
 module _ (bag added : BagPairs) (first : ℕ) (old : Contents) where
@@ -118,7 +112,7 @@ module _ (bag added : BagPairs) (first : ℕ) (old : Contents) where
   pub come-more : (place : ℕ) (now new : Contents) (p : Sym × Term) → slice_get added place ≡ Some p → HasCome place now → IsSharing bag (counted p ∷ []) 1 now new → Grows old new → HasCome (place + 1) new
   come-more place now new p at h k grows = record {
     sharing =
-        subst (λ ps. IsSharing bag ps (place + 1) old new) (sym (first_items (counted_pairs first added) place (counted p) (slice_get-mapped counted added place p at)))
+        subst (λ ps. IsSharing bag ps (place + 1) old new) (sym (take-one_more (counted_pairs first added) place (counted p) (slice_get-mapped counted added place p at)))
         (sharing-then bag (take place (counted_pairs first added)) (counted p ∷ []) place 1 old now new h.sharing k);
     grows = grows;
   }
@@ -127,7 +121,7 @@ module _ (bag added : BagPairs) (first : ℕ) (old : Contents) where
   come-clash place now p at h k =
       clash-wider bag (take place (counted_pairs first added) ++ counted p ∷ []) (counted_pairs first added)
       (λ q i. elim (IsAmong-append (take place (counted_pairs first added)) (counted p ∷ []) q i) [
-        | inl j ↦ take-within place (counted_pairs first added) q j
+        | inl j ↦ IsWithin-take place (counted_pairs first added) q j
         | inr j ↦ elim j [
           | inl e ↦ subst (λ r. IsAmong (counted_pairs first added) r) (sym e) (IsAmong-slice_get (counted_pairs first added) place (counted p) (slice_get-mapped counted added place p at))
           | inr l ↦ absurd l

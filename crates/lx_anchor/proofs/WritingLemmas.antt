@@ -5,9 +5,10 @@ use Rattle.std.specs.List.{AllZip}
 use Rattle.std.proofs.Common.{inl, inr, ap, ap₂, append_assoc, subst, sym, ◌∙◌, arith}
 use Rattle.std.proofs.lemmas.Bool.Decides.{eqb_tells}
 use Rattle.std.proofs.lemmas.List.{append-nil, length_push, take_all, map-append}
-use Rattle.std.proofs.lemmas.Option.{none-some, same_Some}
+use Rattle.std.proofs.lemmas.Option.{none-some}
 use Rattle.gr_base.specs.Lists.{IsAmong, Each, IsRising}
-use Rattle.gr_base.proofs.ListLemmas.{Each-at, IsAmong-map, IsAmong-one_more, IsAmong-new_one, IsWithin-one_more, IsAmong-slice_get}
+use Rattle.gr_base.proofs.ListLemmas.{Each-at, IsAmong-map, IsAmong-one_more, IsAmong-new_one, IsWithin-one_more, IsAmong-slice_get, take-one_more, slice_get-mapped, slice_get-push_cases}
+use Rattle.gr_base.proofs.Zips.{AllZip-append}
 use Rattle.gr_terms.specs.Bags.{HasAttribute, IsListed, LacksAttribute, Puts}
 use Rattle.gr_terms.specs.LiteralViews.{literal_of, literals_of}
 use Rattle.gr_terms.specs.Networks as net
@@ -21,12 +22,10 @@ use Rattle.gr_terms.proofs.BagLemmas.{IsAmong-puts, IsAmong-puts_new, IsAmong-pu
 use Rattle.gr_feats.specs.CanonicalBags.{StandsFor}
 use Rattle.gr_feats.specs.Loading.{counted_from}
 use Rattle.gr_feats.proofs.CanonicalLemmas.{stands_one}
-use Rattle.gr_feats.proofs.LoadLemmas.{first_items}
 use Rattle.td_tree.specs.Trees.{BagPairs}
 use Rattle.td_tree.specs.declared.TreeNode.{TreeNode}
 use Rattle.td_model.specs.CanonicalTrees.{StandsForLiteral}
 use Rattle.td_model.proofs.ReadingLemmas.{zip_push}
-use Rattle.td_model.proofs.SameForms.{AllZip-append}
 use Rattle.lx_anchor.specs.Sharing.{counted_pairs}
 use Rattle.lx_anchor.specs.Writings.{AreJoined, AreJointNodes, HasMore, IsJoint, IsJointNode, Writes, counted_literal, counted_literals, added_at}
 
@@ -52,11 +51,6 @@ literals-none (l ∷ ls) =
     let c = args-none l.args in
     let d = literals-none ls in
     λ i. record { handle = a i; pred = b i; args = c i } ∷ d i
-
-pub slice_get-mapped : {A B : Type 0} (f : A → B) (xs : List A) (i : ℕ) (x : A) → slice_get xs i ≡ Some x → slice_get (map f xs) i ≡ Some (f x)
-slice_get-mapped f [] i x at = absurd (none-some x at)
-slice_get-mapped f (y ∷ ys) zero x at = ap (λ z. Some (f z)) (same_Some y x at)
-slice_get-mapped f (y ∷ ys) (suc i) x at = slice_get-mapped f ys i x at
 
 pub mapped-at : {A B : Type 0} (f : A → B) (P : B → Type 0) (xs : List A) (i : ℕ) (x : A) → Each P (map f xs) → slice_get xs i ≡ Some x → P (f x)
 mapped-at f P xs i x each at = Each-at P (map f xs) (f x) each (IsAmong-slice_get (map f xs) i (f x) (slice_get-mapped f xs i x at))
@@ -87,13 +81,6 @@ has-or-lacks (p ∷ ps) attr = elim (eqb_tells attr.0 p.0.0) [
     | inr k ↦ inr (λ v i. elim i [ inl e ↦ h.1 (ap (λ (q : Sym × Term). q.0.0) e) | inr j ↦ k v j ])
   ]
 ]
-
--- what stands at a place of a list with one more
-placed : {A : Type 0} (xs : List A) (y : A) (n : ℕ) (z : A) → slice_get (xs ++ y ∷ []) n ≡ Some z → (slice_get xs n ≡ Some z) ⊎ ((n ≡ length xs) × (z ≡ y))
-placed [] y zero z there = inr (refl, sym (same_Some y z there))
-placed [] y (suc n) z there = absurd (none-some z there)
-placed (x ∷ xs) y zero z there = inl there
-placed (x ∷ xs) y (suc n) z there = elim (placed xs y n z there) [ inl h ↦ inl h | inr h ↦ inr (ap suc h.0, h.1) ]
 
 module _ (N : List (net.Assertion ℕ ℕ)) where
   -- ---- pairs that are put in
@@ -172,8 +159,8 @@ module _ (N : List (net.Assertion ℕ ℕ)) where
     })
 
     pub put-more : (added : Bool) → OnTrue added (LacksAttribute now attr) → OnTrue added (Puts now new (attr, v)) → OnFalse added (HasAttribute now attr) → OnFalse added (new ≡ now) → IsListed new → IsPut (take (place + 1) bag) old new
-    put-more true absent puts there same_bag new_listed = subst (λ ps. IsPut ps old new) (sym (first_items bag place (attr, x) at)) (put-in absent puts new_listed)
-    put-more false absent puts there same_bag new_listed = subst (λ ps. IsPut ps old new) (sym (first_items bag place (attr, x) at)) (put-not there same_bag)
+    put-more true absent puts there same_bag new_listed = subst (λ ps. IsPut ps old new) (sym (take-one_more bag place (attr, x) at)) (put-in absent puts new_listed)
+    put-more false absent puts there same_bag new_listed = subst (λ ps. IsPut ps old new) (sym (take-one_more bag place (attr, x) at)) (put-not there same_bag)
 
   pub put-all : (bag old now : BagPairs) (place : ℕ) → length bag ≤ place → IsListed bag → IsPut (take place bag) old now → HasMore N bag old now
   put-all bag old now place le listed h =
@@ -217,7 +204,7 @@ module _ (N : List (net.Assertion ℕ ℕ)) where
       → ((x : TreeNode) → slice_get old count ≡ Some x → IsJointNode N x (added_at anchor count added) y) → new ≡ now ++ y ∷ [] → AreJointNodes N old anchor added (count + 1) new
   nodes-push old anchor added count now new y so_far here is = subst (λ ns. AreJointNodes N old anchor added (count + 1) ns) (sym is) (record {
     as_many = length_push now y ∙ ap (λ k. k + 1) so_far.as_many;
-    each = λ n x z at there. elim (placed now y n z there) [
+    each = λ n x z at there. elim (slice_get-push_cases now y n z there) [
       | inl k ↦ so_far.each n x z at k
       | inr k ↦
           let number : count ≡ n = sym so_far.as_many ∙ sym k.0 in

@@ -1,5 +1,5 @@
 -- From a run over the tokens of a file to the answer for its bytes.
-use Rattle.std.proofs.Common.{◌≡◌, ℕ, ◌-◌, ◌<◌, ◌≤◌, List, [], ◌∷◌, ◌++◌, length, true, Option, Some, None, Result, Ok, Err, inr, refl, ap, sym, ◌∙◌, subst, arith}
+use Rattle.std.proofs.Common.{◌≡◌, ℕ, ◌-◌, ◌<◌, ◌≤◌, List, [], ◌∷◌, length, true, Option, Some, None, Result, Ok, Err, inr, refl, ap, sym, ◌∙◌, subst, arith}
 use Rattle.std.specs.Prelude.{slice_range, OnOk}
 use Rattle.std.proofs.lemmas.List.{length-map, length-append}
 use Rattle.gr_grammar.specs.Grammars.{is_clear, IsFault, Runs, took, failed, tree_of}
@@ -8,9 +8,7 @@ use Rattle.gr_grammar.proofs.Exact.{fault_of, fault_behind}
 use Rattle.gr_tokens.specs.declared.Token.{Token}
 use Rattle.gr_tokens.specs.declared.ReadRefusal.{ReadRefusal}
 use Rattle.gr_tokens.specs.declared.ReadRefusal.TheVariants as refusal
-use Rattle.gr_tokens.specs.Tokens.{IsCut, nothing, a_gap, a_token}
 use Rattle.gr_tokens.specs.Answers.{AreTokens}
-use Rattle.gr_tokens.proofs.Openers.{next_some}
 use Rattle.gr_reader.specs.declared.brackets.TheConstants.{BRACKET_LIMIT}
 use Rattle.gr_reader.specs.declared.complaints.Complaint.{Complaint}
 use Rattle.gr_reader.specs.declared.complaints.Fault.{Fault}
@@ -40,16 +38,6 @@ lexicon_is_clear = refl
 -- brackets are closed behind each entry, and stand three deep at most
 lexicon_is_level : level_behind BRACKET_LIMIT 0 lexicon_text ≡ Some 0
 lexicon_is_level = refl
-
--- each token has a byte at least
-cut_few : (before bytes : List ℕ) (ts : List Token) (left : List ℕ) → IsCut before bytes ts left → length ts ≤ length bytes
-cut_few before bytes _ _ nothing = omega arith
-cut_few before bytes ts left (a_gap own rest f g s) = let a = cut_few (before ++ own) rest ts left s in let b = ap length f in let c = length-append own rest in omega arith
-cut_few before bytes _ left (a_token {t = t} {ts = ts} own rest f k s) =
-    let a = cut_few (before ++ own) rest ts left s in let b = ap length f in let c = length-append own rest in let d = next_some t.kind k.text own rest k.next in omega arith
-
-pub tokens_few : (bytes : List ℕ) (ts : List Token) → AreTokens bytes ts → length ts ≤ length bytes
-tokens_few bytes ts a = cut_few [] bytes ts [] a.cut
 
 module _ (bytes : List ℕ) (tokens : List Token) where
   abbrev all : List Lexeme

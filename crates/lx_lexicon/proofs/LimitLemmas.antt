@@ -1,11 +1,11 @@
 -- What every entry that was read keeps.
-use Rattle.std.proofs.Common.{◌≡◌, ℕ, ◌≤◌, List, [], ◌∷◌, ◌++◌, map, length, false, Ok, inl, inr, refl, ap, sym, ◌∙◌, subst}
+use Rattle.std.proofs.Common.{◌≡◌, ℕ, ◌≤◌, List, [], ◌∷◌, ◌++◌, map, length, false, Ok, inl, inr, ap, sym, ◌∙◌, subst}
 use Rattle.std.specs.Prelude.{nat_lt}
 use Rattle.std.specs.List.{AllZip}
 use Rattle.std.proofs.lemmas.Bool.{true≢false, lt-ltb, cases_lt, cases_Bool}
 use Rattle.std.proofs.lemmas.List.{map-append}
 use Rattle.gr_base.specs.Lists.{IsAmong, Each, NoneTwice}
-use Rattle.gr_base.proofs.ListLemmas.{IsAmong-append_left, IsAmong-new_one}
+use Rattle.gr_base.proofs.ListLemmas.{IsAmong-append_left, IsAmong-new_one, append-nil_left, append-nil_right}
 use Rattle.gr_terms.specs.declared.Sym.{Sym}
 use Rattle.gr_symbols.specs.Numbers.{Names}
 use Rattle.gr_symbols.proofs.NumberLemmas.{one_text}
@@ -20,14 +20,6 @@ use Rattle.lx_lexicon.specs.Answers.{IsLexiconReading}
 use Rattle.gr_feats.specs.Complaints.{complaint_if, bag_bad}
 use Rattle.gr_feats.proofs.ComplaintLemmas.{one_of_is, is_one, no_complaint_if}
 use Rattle.lx_lexicon.proofs.NoteLemmas.{row_length}
-
-none_left : {A : Type 0} (xs ys : List A) → xs ++ ys ≡ [] → xs ≡ []
-none_left [] ys e = refl
-none_left (x ∷ xs) ys e = absurd (cc)
-
-none_right : {A : Type 0} (xs ys : List A) → xs ++ ys ≡ [] → ys ≡ []
-none_right [] ys e = e
-none_right (x ∷ xs) ys e = absurd (cc)
 
 not_above : (n : ℕ) → nat_lt 4 n ≡ false → n ≤ 4
 not_above n e = elim (cases_lt 4 n) [ inl l ↦ absurd (true≢false (sym (lt-ltb 4 n l) ∙ e)) | inr l ↦ l ]
@@ -68,10 +60,10 @@ module _ (texts : List (List ℕ)) where
   co_names_keep before [] (c ∷ cs) h e = absurd h
   co_names_keep before (w ∷ ws) [] h e = absurd h
   co_names_keep before (w ∷ ws) (c ∷ cs) h e =
-      let here = none_left (coanchor_bad before w) (coanchors_bad (before ++ w ∷ []) ws) e in
-      let rest = co_names_keep (before ++ w ∷ []) ws cs h.1 (none_right (coanchor_bad before w) (coanchors_bad (before ++ w ∷ []) ws) e) in
-      let new = none_left (complaint_if (is_one_of (names_of before) w.name.text) Duplicate w.name.left) (lemma_bad w.lemma) here in
-      let full = none_right (complaint_if (is_one_of (names_of before) w.name.text) Duplicate w.name.left) (lemma_bad w.lemma) here in (
+      let here = append-nil_left (coanchor_bad before w) (coanchors_bad (before ++ w ∷ []) ws) e in
+      let rest = co_names_keep (before ++ w ∷ []) ws cs h.1 (append-nil_right (coanchor_bad before w) (coanchors_bad (before ++ w ∷ []) ws) e) in
+      let new = append-nil_left (complaint_if (is_one_of (names_of before) w.name.text) Duplicate w.name.left) (lemma_bad w.lemma) here in
+      let full = append-nil_right (complaint_if (is_one_of (names_of before) w.name.text) Duplicate w.name.left) (lemma_bad w.lemma) here in (
         (apart_from before w c.0 cs h.0.name rest.2, rest.0),
         (not_empty w.lemma c.1 h.0.lemma full, rest.1),
         (λ t names. subst (λ z. is_one_of (names_of before) z ≡ false) (one_text texts c.0.0 w.name.text t h.0.name names) (no_complaint_if (is_one_of (names_of before) w.name.text) Duplicate w.name.left new), apart_before before w cs rest.2),
@@ -79,14 +71,14 @@ module _ (texts : List (List ℕ)) where
 
   entry_keeps : (w : WrittenEntry) (e : Entry) → IsEntry texts w e → entry_bad w ≡ [] → KeepsLimits texts e
   entry_keeps w e is none =
-      let many = none_left (literals_bad w.head.left w.body.literals) (lemma_bad w.head.lemma ++ body_bad w.body) none in
-      let rest = none_right (literals_bad w.head.left w.body.literals) (lemma_bad w.head.lemma ++ body_bad w.body) none in
-      let body = none_right (lemma_bad w.head.lemma) (body_bad w.body) rest in
-      let co = co_names_keep [] w.body.coanchors e.coanchors is.coanchors (none_right (bag_bad w.body.anchor) (coanchors_bad [] w.body.coanchors) (none_right (bag_bad w.body.iface) (bag_bad w.body.anchor ++ coanchors_bad [] w.body.coanchors) body)) in
+      let many = append-nil_left (literals_bad w.head.left w.body.literals) (lemma_bad w.head.lemma ++ body_bad w.body) none in
+      let rest = append-nil_right (literals_bad w.head.left w.body.literals) (lemma_bad w.head.lemma ++ body_bad w.body) none in
+      let body = append-nil_right (lemma_bad w.head.lemma) (body_bad w.body) rest in
+      let co = co_names_keep [] w.body.coanchors e.coanchors is.coanchors (append-nil_right (bag_bad w.body.anchor) (coanchors_bad [] w.body.coanchors) (append-nil_right (bag_bad w.body.iface) (bag_bad w.body.anchor ++ coanchors_bad [] w.body.coanchors) body)) in
       let count = row_length (IsLiteral texts) is.behind_anchor w.body.literals e.sem is.behind_all is.literals in
       record {
         few = subst (λ n. n ≤ 4) (sym count) (not_above (length w.body.literals) (no_complaint_if (nat_lt 4 (length w.body.literals)) EntryLiterals w.head.left many));
-        lemma = not_empty w.head.lemma e.lemma is.lemma (none_left (lemma_bad w.head.lemma) (body_bad w.body) rest);
+        lemma = not_empty w.head.lemma e.lemma is.lemma (append-nil_left (lemma_bad w.head.lemma) (body_bad w.body) rest);
         names = co.0;
         lemmas = co.1;
       }
@@ -95,7 +87,7 @@ module _ (texts : List (List ℕ)) where
   entries_keep [] [] h none = tt
   entries_keep [] (e ∷ es) h none = absurd h
   entries_keep (w ∷ ws) [] h none = absurd h
-  entries_keep (w ∷ ws) (e ∷ es) h none = (entry_keeps w e h.0 (none_left (entry_bad w) (lexicon_bad ws) none), entries_keep ws es h.1 (none_right (entry_bad w) (lexicon_bad ws) none))
+  entries_keep (w ∷ ws) (e ∷ es) h none = (entry_keeps w e h.0 (append-nil_left (entry_bad w) (lexicon_bad ws) none), entries_keep ws es h.1 (append-nil_right (entry_bad w) (lexicon_bad ws) none))
 
   pub lexicon_keeps : (bytes : List ℕ) (es : List Entry) → IsLexiconReading bytes texts (Ok es) → Each (KeepsLimits texts) es
   lexicon_keeps bytes es h = entries_keep (lexicon_of h.right.0.tree) es h.right.2 h.right.1

@@ -25,13 +25,6 @@ AllZip-push R [] (b ∷ ys) x y h r = absurd h
 AllZip-push R (a ∷ xs) [] x y h r = absurd h
 AllZip-push R (a ∷ xs) (b ∷ ys) x y h r = (h.0, AllZip-push R xs ys x y h.1 r)
 
--- one more
-pub row_pushed : {A B : Type 0} (R : A → B → Type 0) (xs : List A) (ys zs : List B) (x : A) (y : B) → AllZip R xs ys → R x y → zs ≡ ys ++ y ∷ [] → AllZip R (xs ++ x ∷ []) zs
-row_pushed R xs ys zs x y h r e = subst (λ zs. AllZip R (xs ++ x ∷ []) zs) (sym e) (AllZip-push R xs ys x y h r)
-
-pub row_none : {A B : Type 0} (R : A → B → Type 0) (ys : List B) → ys ≡ [] → AllZip R [] ys
-row_none R ys e = subst (λ ys. AllZip R [] ys) (sym e) tt
-
 -- the last of a row
 pub AllZip-last : {A B : Type 0} (R : A → B → Type 0) (xs : List A) (ys : List B) (y : B) → AllZip R xs (ys ++ y ∷ [])
     → (front : List A) × (x : A) × (xs ≡ front ++ x ∷ []) × AllZip R front ys × R x y

@@ -2,7 +2,7 @@
 use Rattle.std.specs.Prelude.{◌≡◌, ℕ, zero, suc, ◌+◌, ◌<◌, ◌≤◌, List, [], ◌∷◌, ◌++◌, map, take, Bool, true, false, Option, Some, None, ◌⊎◌, ◌↔◌, length, sum, slice_get, refl}
 use Rattle.std.specs.List.{AllZip}
 use Rattle.std.proofs.Common.{inl, inr, ap, sym, ◌∙◌, subst, arith}
-use Rattle.std.proofs.lemmas.Option.{none-some, slice_get_within}
+use Rattle.std.proofs.lemmas.Option.{none-some, slice_get_within, same_Some}
 use Rattle.gr_base.specs.Lists.{IsAmong, Each, NoneTwice, InByteOrder, gathered}
 use Rattle.gr_base.proofs.ListLemmas.{IsAmong-append, IsAmong-append_left, IsAmong-append_right, IsAmong-slice_get, Each-at, Each-members}
 use Rattle.gr_terms.specs.Networks.{Term, name, variable, Assertion, entry, equate, link}
@@ -16,6 +16,7 @@ use Rattle.td_solver.specs.Solutions.{IsModelTotal, IsSolutionText}
 use Rattle.td_count.specs.TextsOfModels.{DifferByTexts}
 use Rattle.gr_base.specs.Decisions.{IsDecided}
 use Rattle.gr_base.proofs.Deciding.{decided_less, decided_no_more}
+use Rattle.gr_base.proofs.Numbers.{before_or_at}
 use Rattle.td_count.proofs.Counting.{models_counted}
 use Rattle.td_count.proofs.Sorting.{sorted}
 use Rattle.td_count.proofs.Solving.{all_texts}
@@ -33,10 +34,9 @@ use Rattle.mg_compile.specs.declared.refusal.CompileRefusal.{CompileRefusal}
 use Rattle.mg_compile.specs.declared.refusal.CompileRefusal.TheVariants as refusal
 use Rattle.mg_compile.specs.Compiled.{Describes, IsCompiledText, IsCompiledList, IsExpansionTotal, IsModelSteps, IsTextWithin, IsCutList, IsRightList, HasTooManyNodes, IsFaultOf, IsFaultless, IsClassFault}
 use Rattle.mg_compile.proofs.Carried.{AreOneDescription, one_count}
-use Rattle.mg_compile.proofs.Gone.{or_before}
 use Rattle.mg_compile.proofs.Naming.{expansion_named}
 use Rattle.mg_compile.proofs.Uniqueness.{same_steps}
-use Rattle.mg_compile.proofs.Zipped.{some_same, zip_last, zip_unique}
+use Rattle.mg_compile.proofs.Zipped.{zip_last, zip_unique}
 
 totals_exist : (d : Description Variable Slot) (n : ℕ) → (total : ℕ) × IsModelTotal d n total
 totals_exist d zero = (0, refl)
@@ -155,7 +155,7 @@ module _ (m : List Item) where
     first_fault (w ∷ ws) = by_head (fault_at w) (first_fault ws)
       where
         later : IsFaultless m c w → (r : FirstFault ws) → (n : ℕ) (v : Walk) → n < suc r.place → slice_get (w ∷ ws) n ≡ Some v → IsFaultless m c v
-        later h r zero v l e = subst (λ u. IsFaultless m c u) (some_same w v e) h
+        later h r zero v l e = subst (λ u. IsFaultless m c u) (same_Some w v e) h
         later h r (suc n) v l e = r.before n v (omega (arith, l)) e
 
         by_head : HasFault w ⊎ IsFaultless m c w → FirstFault ws ⊎ Each (IsFaultless m c) ws → FirstFault (w ∷ ws) ⊎ Each (IsFaultless m c) (w ∷ ws)
@@ -204,7 +204,7 @@ module _ (m : List Item) where
             where
               among : (vs : List Walk) (n : ℕ) (w : Walk) → slice_get vs n ≡ Some w → IsAmong vs w
               among [] n w e = absurd (let q = e in cc)
-              among (v ∷ vs) zero w e = inl (sym (some_same v w e))
+              among (v ∷ vs) zero w e = inl (sym (same_Some v w e))
               among (v ∷ vs) (suc n) w e = inr (among vs n w e)
 
     -- ---- lists
@@ -316,22 +316,22 @@ module _ (m : List Item) where
         one_more n r None q d = record {
           list = r.list;
           only = r.only;
-          all = λ k w b l at paid t. elim (or_before k n l) [ inl h ↦ r.all k w b h at paid t | inr h ↦ absurd (none-some w (sym q ∙ (ap (slice_get ws) (sym h) ∙ at))) ];
+          all = λ k w b l at paid t. elim (before_or_at k n l) [ inl h ↦ r.all k w b h at paid t | inr h ↦ absurd (none-some w (sym q ∙ (ap (slice_get ws) (sym h) ∙ at))) ];
         }
         one_more n r (Some v) q (inl few) =
             let here = texts_at v (Each-at (IsExpansion m c) ws v e.all.only (IsAmong-slice_get ws n v q)) in
             record {
               list = here.0 ++ r.list;
               only = λ b i. elim (IsAmong-append here.0 r.list b i) [ inl j ↦ reach n v q few b ((here.1 b).0 j) | inr j ↦ r.only b j ];
-              all = λ k w b l at paid t. elim (or_before k n l) [
+              all = λ k w b l at paid t. elim (before_or_at k n l) [
                 | inl h ↦ IsAmong-append_right here.0 r.list b (r.all k w b h at paid t)
-                | inr h ↦ IsAmong-append_left here.0 r.list b ((here.1 b).1 (subst (λ u. IsTextOf u b) (some_same w v (sym at ∙ (ap (slice_get ws) h ∙ q))) t))
+                | inr h ↦ IsAmong-append_left here.0 r.list b ((here.1 b).1 (subst (λ u. IsTextOf u b) (same_Some w v (sym at ∙ (ap (slice_get ws) h ∙ q))) t))
               ];
             }
         one_more n r (Some v) q (inr not) = record {
           list = r.list;
           only = r.only;
-          all = λ k w b l at paid t. elim (or_before k n l) [ inl h ↦ r.all k w b h at paid t | inr h ↦ absurd (not (subst (λ z. cost (suc z) ≤ budget) h paid)) ];
+          all = λ k w b l at paid t. elim (before_or_at k n l) [ inl h ↦ r.all k w b h at paid t | inr h ↦ absurd (not (subst (λ z. cost (suc z) ≤ budget) h paid)) ];
         }
 
         paid_texts : (n : ℕ) → PaidTexts n

@@ -1,9 +1,10 @@
 -- What each answer of an expander does to what was found.
-use Rattle.std.specs.Prelude.{◌≡◌, ℕ, zero, suc, ◌+◌, ◌<◌, ◌≤◌, List, length, sum, Bool, true, false, Some, ◌⊎◌, slice_get}
+use Rattle.std.specs.Prelude.{◌≡◌, ℕ, zero, suc, ◌+◌, ◌<◌, ◌≤◌, List, [], length, sum, Bool, true, false, Some, ◌⊎◌, slice_get}
 use Rattle.std.proofs.Common.{inl, inr, refl, sym, ap, ◌∙◌, subst, arith}
-use Rattle.std.proofs.lemmas.Option.{slice_get_within}
+use Rattle.std.proofs.lemmas.Option.{slice_get_within, same_Some}
 use Rattle.gr_base.specs.Lists.{IsAmong, Each, IsWithin}
 use Rattle.gr_base.proofs.ListLemmas.{Each-at, Each-members, IsAmong-map, IsAmong-map_from, IsAmong-slice_get}
+use Rattle.gr_base.proofs.Numbers.{before_or_at}
 use Rattle.gr_terms.specs.declared.Sym.{Sym}
 use Rattle.mg_syntax.specs.declared.item.Item.{Item}
 use Rattle.td_canon.specs.CanonicalTexts.{text_in}
@@ -23,23 +24,8 @@ use Rattle.mg_compile.specs.declared.refusal.CompileRefusal.TheVariants as refus
 use Rattle.mg_compile.specs.Compiled.{Describes, IsCompiledTree, IsExpansionTotal, IsTextWithin, IsFaultless}
 use Rattle.mg_compile.specs.Taking.{Paid, LacksUnits, FoundAll, FoundSome, WasSearched, Searched, Passed}
 use Rattle.mg_compile.specs.Going.{HasTextsOf, IsUncut, IsCut, IsListed, HasGone}
-use Rattle.mg_compile.proofs.Zipped.{some_same, zip_last}
+use Rattle.mg_compile.proofs.Zipped.{zip_last}
 use Rattle.mg_compile.proofs.Carried.{AreOneDescription, clash_counts, describes, only_one, as_many, counts, text_down, solution_up}
-
-pub or_before : (n k : ℕ) → n < suc k → (n < k) ⊎ (n ≡ k)
-or_before zero zero h = inr refl
-or_before zero (suc k) h = inl (omega arith)
-or_before (suc n) zero h = absurd (none n h)
-  where
-    none : (n : ℕ) → suc n < 1 → ⊥
-    none n h = omega arith
-or_before (suc n) (suc k) h = elim (or_before n k (less n k h)) [ inl l ↦ inl (more n k l) | inr e ↦ inr (ap suc e) ]
-  where
-    less : (n k : ℕ) → suc n < suc (suc k) → n < suc k
-    less n k h = omega arith
-
-    more : (n k : ℕ) → n < k → suc n < suc k
-    more n k h = omega arith
 
 -- FAULTS
 
@@ -70,18 +56,18 @@ cut_none texts m budget ws k f left true l e = let z : f.left.left ≡ 0 = l.non
 module _ (texts : List (List ℕ)) (m : List Item) (c : Sym) (budget : ℕ) (ws : List Walk) (k : ℕ) (w : Walk) (at : slice_get ws k ≡ Some w) (old new : Found)
     (g : HasGone texts m c budget ws k old) (faultless : IsFaultless m c w) where
   more_faultless : (n : ℕ) (v : Walk) → n < suc k → slice_get ws n ≡ Some v → IsFaultless m c v
-  more_faultless n v l e = elim (or_before n k l) [
+  more_faultless n v l e = elim (before_or_at n k l) [
     | inl b ↦ g.faultless n v b e
-    | inr q ↦ subst (λ z. IsFaultless m c z) (some_same w v (sym at ∙ (ap (slice_get ws) (sym q) ∙ e))) faultless
+    | inr q ↦ subst (λ z. IsFaultless m c z) (same_Some w v (sym at ∙ (ap (slice_get ws) (sym q) ∙ e))) faultless
   ]
 
   -- what held of the texts before holds where the new expansion has its own
   more_texts : HasTextsOf texts m ws k old.trees → IsWithin (texts_of old.trees) (texts_of new.trees)
       → ((d : Description Variable Slot) (bytes : List ℕ) → Describes m w d → IsSolutionText (text_in texts) d bytes → IsAmong (texts_of new.trees) bytes)
       → HasTextsOf texts m ws (suc k) new.trees
-  more_texts before kept here n v d bytes l e h s = elim (or_before n k l) [
+  more_texts before kept here n v d bytes l e h s = elim (before_or_at n k l) [
     | inl b ↦ kept bytes (before n v d bytes b e h s)
-    | inr q ↦ here d bytes (subst (λ z. Describes m z d) (some_same v w (sym e ∙ (ap (slice_get ws) q ∙ at))) h) s
+    | inr q ↦ here d bytes (subst (λ z. Describes m z d) (same_Some v w (sym e ∙ (ap (slice_get ws) q ∙ at))) h) s
   ]
 
   long : k < length ws

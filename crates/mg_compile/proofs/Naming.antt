@@ -2,7 +2,7 @@
 use Rattle.std.specs.Prelude.{◌≡◌, ℕ, ◌+◌, ◌<◌, List, [], ◌∷◌, ◌++◌, map, Option, Some, None, ⊤}
 use Rattle.std.proofs.Common.{sym, subst}
 use Rattle.gr_base.specs.Lists.{Each, gathered}
-use Rattle.gr_base.proofs.ListLemmas.{Each-at, Each-left, Each-right, Each-append, Each-map, IsAmong-slice_get}
+use Rattle.gr_base.proofs.ListLemmas.{Each-at, Each-left, Each-right, Each-append, Each-map, IsAmong-slice_get, Each-weaker}
 use Rattle.gr_terms.specs.declared.Sym.{Sym}
 use Rattle.mg_syntax.specs.declared.body.Side.{Side}
 use Rattle.mg_syntax.specs.declared.body.Side.TheVariants as side
@@ -18,7 +18,7 @@ use Rattle.mg_syntax.specs.declared.item.Class.{Class}
 use Rattle.mg_syntax.specs.declared.item.Item.{Item}
 use Rattle.mg_syntax.specs.declared.item.Item.TheVariants as item
 use Rattle.mg_syntax.specs.Names.{if_some, ref_names, side_names, pair_names, bag_names, literal_names, block_names, kid_names, syn_item_names, statement_names, body_names, class_names, item_names, all_names}
-use Rattle.mg_syntax.proofs.Names.{Each-by, Each-gathered_from, layer_names, parts_names, block_names-roll, kid_names-roll, statement_names-out}
+use Rattle.mg_syntax.proofs.Names.{Each-gathered_from, layer_names, parts_names, block_names-roll, kid_names-roll, statement_names-out}
 use Rattle.mg_scope.specs.Classes.{class_of, exports_of, firsts}
 use Rattle.mg_scope.proofs.ClassLemmas.{class_of-stands}
 use Rattle.mg_facts.specs.Meanings.{names_in}
@@ -43,7 +43,7 @@ module _ (count : ℕ) where
   pair_known p h = (h.0, side_known p.1 h.1)
 
   bag_known : (bag : List (Sym × Side)) → Each Q (bag_names bag) → Each (IsNamedPair count) bag
-  bag_known bag h = Each-by (λ p. Each Q (pair_names p)) (IsNamedPair count) pair_known bag (Each-gathered_from Q pair_names bag h)
+  bag_known bag h = Each-weaker (λ p. Each Q (pair_names p)) (IsNamedPair count) pair_known bag (Each-gathered_from Q pair_names bag h)
 
   handle_known : (s : Option Side) → Each Q (if_some side_names s) → IsNamedHandle count s
   handle_known None h = tt
@@ -56,7 +56,7 @@ module _ (count : ℕ) where
       let front = Each-left Q (handle ++ side_names l.pred) args h in (
         handle_known l.handle (Each-left Q handle (side_names l.pred) front),
         side_known l.pred (Each-right Q handle (side_names l.pred) front),
-        Each-by (λ s. Each Q (side_names s)) (IsNamedSide count) side_known l.args (Each-gathered_from Q side_names l.args (Each-right Q (handle ++ side_names l.pred) args h)),
+        Each-weaker (λ s. Each Q (side_names s)) (IsNamedSide count) side_known l.args (Each-gathered_from Q side_names l.args (Each-right Q (handle ++ side_names l.pred) args h)),
       )
 
   -- BLOCKS
@@ -123,15 +123,15 @@ module _ (count : ℕ) where
 
   body_known : (b : List (List Statement)) → Each Q (body_names b) → Each (Each IsKnownStatement) b
   body_known b h =
-      Each-by (λ a. Each Q (gathered statement_names a)) (Each IsKnownStatement) (Each-gathered_from Q statement_names) b (Each-gathered_from Q (gathered statement_names) b h)
+      Each-weaker (λ a. Each Q (gathered statement_names a)) (Each IsKnownStatement) (Each-gathered_from Q statement_names) b (Each-gathered_from Q (gathered statement_names) b h)
 
   layer_known : (f : Statement-F Statement) → Each Q (layer_names f) → IsNamedTask (task_in f)
   layer_known (statement.Group b) h = body_known b h
   layer_known (statement.Call c) h = tt
   layer_known (statement.Bind x c) h = tt
   layer_known (statement.Equation r s) h = side_known s (Each-right Q (ref_names r) (side_names s) h)
-  layer_known (statement.Syn items) h = Each-by (λ i. Each Q (syn_item_names i)) (IsNamedItem count) item_known items (Each-gathered_from Q syn_item_names items h)
-  layer_known (statement.Sem ls) h = Each-by (λ l. Each Q (literal_names l)) (IsNamedSaying count) literal_known ls (Each-gathered_from Q literal_names ls h)
+  layer_known (statement.Syn items) h = Each-weaker (λ i. Each Q (syn_item_names i)) (IsNamedItem count) item_known items (Each-gathered_from Q syn_item_names items h)
+  layer_known (statement.Sem ls) h = Each-weaker (λ l. Each Q (literal_names l)) (IsNamedSaying count) literal_known ls (Each-gathered_from Q literal_names ls h)
   layer_known (statement.Iface bag) h = bag_known bag h
 
   statement_known : (s : Statement) → IsKnownStatement s → IsNamedTask (task_of s)
@@ -175,7 +175,7 @@ module _ (count : ℕ) where
     walk_named _ _ (takes {rest} {w} b i s a d) h here n =
         walk_named (map task_of s ++ rest) w d
         (Each-append IsNamedTask (map task_of s) rest
-        (Each-map task_of IsNamedTask s (Each-by IsKnownStatement (λ x. IsNamedTask (task_of x)) statement_known s (alternative_known b i s a h.0))) h.1) here n
+        (Each-map task_of IsNamedTask s (Each-weaker IsKnownStatement (λ x. IsNamedTask (task_of x)) statement_known s (alternative_known b i s a h.0))) h.1) here n
     walk_named _ _ (performs {rest} {w} d does) h here n =
         Each-append (IsNamedSaid count) (deed_said here n d) (walk_said m here (n + deed_weight d) w) (deed_named count here n d h.0) (walk_named rest w does h.1 here (n + deed_weight d))
     walk_named _ _ (enters {rest} {inside} {after} how c k e d more) h here n =

@@ -1,9 +1,11 @@
 -- Laws of compiled lists, steps and faults.
-use Rattle.std.specs.Prelude.{◌≡◌, ℕ, zero, suc, ◌+◌, ◌<◌, ◌≤◌, List, [], ◌∷◌, length, sum, Bool, true, false, Some, ◌⊎◌, ◌↔◌, slice_get}
+use Rattle.std.specs.Prelude.{◌≡◌, ℕ, ◌+◌, ◌<◌, ◌≤◌, List, [], ◌∷◌, length, sum, Bool, true, false, Some, ◌↔◌, slice_get}
 use Rattle.std.specs.List.{AllZip}
 use Rattle.std.proofs.Common.{inl, inr, refl, sym, ap, ◌∙◌, subst, arith}
 use Rattle.std.proofs.lemmas.Bool.{false≢true}
+use Rattle.std.proofs.lemmas.Option.{same_Some}
 use Rattle.gr_base.specs.Lists.{InByteOrder, IsWithin}
+use Rattle.gr_base.proofs.Numbers.{less_same_more}
 use Rattle.gr_terms.specs.declared.Sym.{Sym}
 use Rattle.mg_syntax.specs.declared.item.Item.{Item}
 use Rattle.mg_expand.specs.Walks.{Walk}
@@ -11,7 +13,7 @@ use Rattle.mg_expand.proofs.WalkLemmas.{one_list}
 use Rattle.mg_compile.specs.declared.refusal.CompileRefusal.{CompileRefusal}
 use Rattle.mg_compile.specs.declared.refusal.CompileRefusal.TheVariants as refusal
 use Rattle.mg_compile.specs.Compiled.{IsExpansionTotal, IsCompiledList, IsModelSteps, IsRightList, IsFaultOf, IsClassFault}
-use Rattle.mg_compile.proofs.Zipped.{some_same, zip_unique}
+use Rattle.mg_compile.proofs.Zipped.{zip_unique}
 use Rattle.mg_compile.proofs.Carried.{AreOneDescription, one_count}
 
 pub same_lists : ((xs ys : List (List ℕ)) → InByteOrder xs → InByteOrder ys → IsWithin xs ys → IsWithin ys xs → xs ≡ ys)
@@ -37,24 +39,13 @@ fault_of m c w (refusal.TooManyNodes j) (refusal.TooManyNodes k) h g = ap refusa
 fault_of m c w (refusal.TooManyNodes j) refusal.Memory h g = absurd g
 fault_of m c w refusal.Memory f h g = absurd h
 
-compare : (a b : ℕ) → (a < b) ⊎ ((a ≡ b) ⊎ (b < a))
-compare zero zero = inr (inl refl)
-compare zero (suc b) = inl (omega arith)
-compare (suc a) zero = inr (inr (omega arith))
-compare (suc a) (suc b) = more (compare a b)
-  where
-    more : (a < b) ⊎ ((a ≡ b) ⊎ (b < a)) → (suc a < suc b) ⊎ ((suc a ≡ suc b) ⊎ (suc b < suc a))
-    more (inl l) = inl (omega arith)
-    more (inr (inl e)) = inr (inl (ap suc e))
-    more (inr (inr l)) = inr (inr (omega arith))
-
 pub same_fault : (m : List Item) (c : Sym) (budget : ℕ) (e f : CompileRefusal) → IsClassFault m c budget e → IsClassFault m c budget f → e ≡ f
 same_fault m c budget e f h g =
     let same : h.walks ≡ g.walks = one_list m c h.walks g.walks h.expansions g.expansions in
-    elim (compare h.place g.place) [
+    elim (less_same_more h.place g.place) [
       | inl l ↦ absurd (g.before h.place h.walk l (subst (λ ws. slice_get ws h.place ≡ Some h.walk) same h.here) e h.fault)
       | inr (inl q) ↦ fault_of m c g.walk e f
-          (subst (λ w. IsFaultOf m c w e) (some_same h.walk g.walk (sym h.here ∙ (ap (λ ws. slice_get ws h.place) same ∙ (ap (slice_get g.walks) q ∙ g.here)))) h.fault) g.fault
+          (subst (λ w. IsFaultOf m c w e) (same_Some h.walk g.walk (sym h.here ∙ (ap (λ ws. slice_get ws h.place) same ∙ (ap (slice_get g.walks) q ∙ g.here)))) h.fault) g.fault
       | inr (inr l) ↦ absurd (h.before g.place g.walk l (subst (λ ws. slice_get ws g.place ≡ Some g.walk) (sym same) g.here) f g.fault)
     ]
 

@@ -3,10 +3,7 @@ use Rattle.std.specs.Prelude.{◌≡◌, ℕ, zero, suc, ◌+◌, ◌≤◌, Lis
 use Rattle.std.specs.List.{AllZip}
 use Rattle.std.proofs.Common.{refl, ap, subst, arith}
 use Rattle.std.proofs.lemmas.List.Sums.{sum_by-cons}
-use Rattle.std.proofs.lemmas.Option.{none-some}
-
-pub some_same : {A : Type 0} (x y : A) → Some x ≡ Some y → x ≡ y
-some_same x y e = cc
+use Rattle.std.proofs.lemmas.Option.{none-some, same_Some}
 
 sum-cons : (t : ℕ) (ts : List ℕ) → sum (t ∷ ts) ≡ t + sum ts
 sum-cons t ts = sum_by-cons (λ x. x) t ts
@@ -27,7 +24,7 @@ pub zip_last : {A : Type 0} (P : A → ℕ → Type 0) (xs : List A) (k : ℕ) (
 zip_last P [] k x ts at h = absurd (none-some x at)
 zip_last P (y ∷ xs) zero x [] at h = absurd h
 zip_last P (y ∷ xs) zero x (t ∷ []) at h =
-    (record { before = []; here = t; zipped = tt; is = subst (λ z. P z t) (some_same y x at) h.0 }, (let e : sum (t ∷ []) ≡ t + 0 = sum-cons t [] in omega arith))
+    (record { before = []; here = t; zipped = tt; is = subst (λ z. P z t) (same_Some y x at) h.0 }, (let e : sum (t ∷ []) ≡ t + 0 = sum-cons t [] in omega arith))
 zip_last P (y ∷ xs) zero x (t ∷ s ∷ ts) at h = absurd h.1
 zip_last P (y ∷ xs) (suc k) x [] at h = absurd h
 zip_last P (y ∷ xs) (suc k) x (t ∷ ts) at h =
@@ -43,7 +40,7 @@ pub zip_at : {A : Type 0} (P : A → ℕ → Type 0) (xs : List A) (k : ℕ) (x 
 zip_at P [] k x ts at h = absurd (none-some x at)
 zip_at P (y ∷ xs) k x [] at h = absurd h
 zip_at P (y ∷ xs) zero x (t ∷ ts) at h =
-    (record { before = []; here = t; zipped = tt; is = subst (λ z. P z t) (some_same y x at) h.0 }, (let e : sum (t ∷ ts) ≡ t + sum ts = sum-cons t ts in omega arith))
+    (record { before = []; here = t; zipped = tt; is = subst (λ z. P z t) (same_Some y x at) h.0 }, (let e : sum (t ∷ ts) ≡ t + sum ts = sum-cons t ts in omega arith))
 zip_at P (y ∷ xs) (suc k) x (t ∷ ts) at h =
     let r = zip_at P xs k x ts at h.1 in
     let e : sum (t ∷ ts) ≡ t + sum ts = sum-cons t ts in

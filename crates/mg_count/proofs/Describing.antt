@@ -1,9 +1,9 @@
 -- Facts have a description. A node that is given two colours may show either.
-use Rattle.std.specs.Prelude.{◌≡◌, ℕ, suc, List, [], ◌∷◌, ◌++◌, Some, ◌⊎◌, refl, slice_get}
+use Rattle.std.specs.Prelude.{◌≡◌, ℕ, List, [], ◌∷◌, ◌++◌, ◌⊎◌, refl}
 use Rattle.std.specs.List.{AllZip}
-use Rattle.std.proofs.Common.{inl, inr, ap, sym, subst}
+use Rattle.std.proofs.Common.{inl, inr, sym, subst}
 use Rattle.gr_base.specs.Lists.{IsAmong, gathered}
-use Rattle.gr_base.proofs.ListLemmas.{IsAmong-append_left, IsAmong-append_right, IsAmong-gathered, IsAmong-gathered_from}
+use Rattle.gr_base.proofs.ListLemmas.{IsAmong-append_left, IsAmong-append_right, IsAmong-gathered, IsAmong-gathered_from, slice_get-IsAmong}
 use Rattle.td_desc.specs.declared.Colour.{Colour}
 use Rattle.td_desc.specs.declared.Colour.TheVariants.{Black, White, Red}
 use Rattle.td_desc.specs.declared.Dominance.{Dominance}
@@ -25,12 +25,6 @@ zipped R (x ∷ xs) f =
     let y = f x (inl refl) in
     let rest = zipped R xs (λ z i. f z (inr i)) in
     (y.0 ∷ rest.0, (y.1, rest.1))
-
--- the place of a member
-place_of : {A : Type 0} (xs : List A) (x : A) → IsAmong xs x → (n : ℕ) × (slice_get xs n ≡ Some x)
-place_of [] x i = absurd i
-place_of (y ∷ ys) x (inl e) = (0, ap Some (sym e))
-place_of (y ∷ ys) x (inr i) = let r = place_of ys x i in (suc r.0, r.1)
 
 module _ (all : List Said) where
   -- ---- colours
@@ -127,7 +121,7 @@ module _ (all : List Said) where
     placed : (x : Variable) → IsAmong (standing all) x → (n : ℕ) × IsPlaceOf all ns n x
     placed x i = elim (has_first [] (standing all) h.firsts h.are_firsts x i) [
       | inl k ↦ absurd k.1
-      | inr k ↦ let p = place_of ns k.0 (node_among k.0 k.1) in (p.0, (k.0, p.1, k.2))
+      | inr k ↦ let p = slice_get-IsAmong ns k.0 (node_among k.0 k.1) in (p.0, (k.0, p.1, k.2))
     ]
 
     abbrev Ends : Said → Variable × Dominance × Variable → Type 0

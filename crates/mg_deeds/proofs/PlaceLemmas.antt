@@ -3,7 +3,7 @@ use Rattle.std.specs.Prelude.{ℕ, ◌+◌, ◌<◌, ◌≤◌, List, [], ◌∷
 use Rattle.std.proofs.Common.{arith}
 use Rattle.gr_base.specs.Lists.{Each, IsRising}
 use Rattle.gr_base.specs.Forests.{Forest, empty, tree}
-use Rattle.gr_base.proofs.ListLemmas.{Each-append}
+use Rattle.gr_base.proofs.ListLemmas.{Each-append, Each-weaker}
 use Rattle.mg_syntax.specs.declared.body.Literal.{Literal}
 use Rattle.mg_syntax.specs.declared.block.SynItem.{SynItem}
 use Rattle.mg_syntax.specs.declared.block.SynItem.TheVariants as item
@@ -12,16 +12,11 @@ use Rattle.mg_deeds.specs.Deeds.{Deed, equation, syntax_items, semantics, interf
 use Rattle.mg_deeds.specs.Weights.{total, head_weight, kids_weight, block_weight, syntax_weight, literal_weight, deed_weight}
 use Rattle.mg_deeds.specs.Places.{kids_places, block_places, syntax_places, literal_places, places_from, deed_places, AreBetween}
 
--- what holds of each element, weakened
-Each-weaker : {A : Type 0} (P Q : A → Type 0) (xs : List A) → ((x : A) → P x → Q x) → Each P xs → Each Q xs
-Each-weaker P Q [] f h = tt
-Each-weaker P Q (x ∷ xs) f h = (f x h.0, Each-weaker P Q xs f h.1)
-
 -- rising numbers below those that follow
 IsRising-append : (m : ℕ) (xs ys : List ℕ) → IsRising xs → Each (λ p. p < m) xs → IsRising ys → Each (λ p. m ≤ p) ys → IsRising (xs ++ ys)
 IsRising-append m [] ys r below s above = s
 IsRising-append m (x ∷ xs) ys r below s above =
-    (Each-append (λ y. x < y) xs ys r.0 (Each-weaker (λ p. m ≤ p) (λ y. x < y) ys (λ y h. let b = below.0 in omega arith) above), IsRising-append m xs ys r.1 below.1 s above)
+    (Each-append (λ y. x < y) xs ys r.0 (Each-weaker (λ p. m ≤ p) (λ y. x < y) (λ y h. let b = below.0 in omega arith) ys above), IsRising-append m xs ys r.1 below.1 s above)
 
 pub no_places : (n m : ℕ) → AreBetween n m []
 no_places n m = record { rising = tt; low = tt; high = tt }
@@ -30,15 +25,15 @@ no_places n m = record { rising = tt; low = tt; high = tt }
 pub between_wider : (n m i j : ℕ) (ps : List ℕ) → i ≤ n → m ≤ j → AreBetween n m ps → AreBetween i j ps
 between_wider n m i j ps below above b = record {
   rising = b.rising;
-  low = Each-weaker (λ p. n ≤ p) (λ p. i ≤ p) ps (λ p h. omega arith) b.low;
-  high = Each-weaker (λ p. p < m) (λ p. p < j) ps (λ p h. omega arith) b.high;
+  low = Each-weaker (λ p. n ≤ p) (λ p. i ≤ p) (λ p h. omega arith) ps b.low;
+  high = Each-weaker (λ p. p < m) (λ p. p < j) (λ p h. omega arith) ps b.high;
 }
 
 -- a first place, and places behind it
 pub place_first : (n k m : ℕ) (ps : List ℕ) → n < k → n < m → AreBetween k m ps → AreBetween n m (n ∷ ps)
 place_first n k m ps before inside b = record {
-  rising = (Each-weaker (λ p. k ≤ p) (λ p. n < p) ps (λ p h. omega arith) b.low, b.rising);
-  low = (omega arith, Each-weaker (λ p. k ≤ p) (λ p. n ≤ p) ps (λ p h. omega arith) b.low);
+  rising = (Each-weaker (λ p. k ≤ p) (λ p. n < p) (λ p h. omega arith) ps b.low, b.rising);
+  low = (omega arith, Each-weaker (λ p. k ≤ p) (λ p. n ≤ p) (λ p h. omega arith) ps b.low);
   high = (inside, b.high);
 }
 
@@ -46,8 +41,8 @@ place_first n k m ps before inside b = record {
 pub places_joined : (n k m : ℕ) (ps qs : List ℕ) → n ≤ k → k ≤ m → AreBetween n k ps → AreBetween k m qs → AreBetween n m (ps ++ qs)
 places_joined n k m ps qs before after b c = record {
   rising = IsRising-append k ps qs b.rising b.high c.rising c.low;
-  low = Each-append (λ p. n ≤ p) ps qs b.low (Each-weaker (λ p. k ≤ p) (λ p. n ≤ p) qs (λ p h. omega arith) c.low);
-  high = Each-append (λ p. p < m) ps qs (Each-weaker (λ p. p < k) (λ p. p < m) ps (λ p h. omega arith) b.high) c.high;
+  low = Each-append (λ p. n ≤ p) ps qs b.low (Each-weaker (λ p. k ≤ p) (λ p. n ≤ p) (λ p h. omega arith) qs c.low);
+  high = Each-append (λ p. p < m) ps qs (Each-weaker (λ p. p < k) (λ p. p < m) (λ p h. omega arith) ps b.high) c.high;
 }
 
 kids_between : (n : ℕ) (f : Forest KidHead) → AreBetween n (n + kids_weight f) (kids_places n f)

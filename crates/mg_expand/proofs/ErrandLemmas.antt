@@ -2,8 +2,9 @@
 use Rattle.std.specs.Prelude.{◌≡◌, ℕ, zero, suc, ◌+◌, ◌<◌, ◌≤◌, List, [], ◌∷◌, ◌++◌, map, length, take, drop, Option, Some, None, ◌⊎◌, slice_get, refl}
 use Rattle.std.proofs.Common.{inl, inr, ap, ap₂, sym, ◌∙◌, subst, arith}
 use Rattle.std.proofs.lemmas.List.{take-append-drop, length-append}
-use Rattle.std.proofs.lemmas.Option.{slice_get_within, none-some}
-use Rattle.gr_base.proofs.ListLemmas.{slice_get-append_left, slice_get_push}
+use Rattle.std.proofs.lemmas.Option.{slice_get_within, same_Some}
+use Rattle.std.proofs.lemmas.Bool.{cases_lt}
+use Rattle.gr_base.proofs.ListLemmas.{slice_get-append_left, slice_get_push, slice_get-not_none, same_head, same_tail}
 use Rattle.gr_terms.specs.declared.Sym.{Sym}
 use Rattle.mg_syntax.specs.declared.body.Statement.{Statement}
 use Rattle.mg_syntax.specs.declared.item.Class.{Class}
@@ -21,18 +22,9 @@ use Rattle.mg_expand.specs.Errands.{chain, AreLinked}
 
 -- LISTS
 
-pub some_same : {A : Type 0} (x y : A) → Some x ≡ Some y → x ≡ y
-some_same x y e = cc
-
 pub known : {A : Type 0} (o : Option A) → (o ≡ None) ⊎ ((x : A) × (o ≡ Some x))
 known None = inl refl
 known (Some x) = inr (x, refl)
-
-heads_same : {A : Type 0} (x y : A) (xs ys : List A) → x ∷ xs ≡ y ∷ ys → x ≡ y
-heads_same x y xs ys e = cc
-
-tails_same : {A : Type 0} (x y : A) (xs ys : List A) → x ∷ xs ≡ y ∷ ys → xs ≡ ys
-tails_same x y xs ys e = cc
 
 pub no_last : {A : Type 0} (xs : List A) (x : A) → [] ≡ xs ++ x ∷ [] → ⊥
 no_last [] x e = cc
@@ -40,27 +32,12 @@ no_last (y ∷ xs) x e = cc
 
 -- a list with a last element has one such element
 pub last_same : {A : Type 0} (xs ys : List A) (x y : A) → xs ++ x ∷ [] ≡ ys ++ y ∷ [] → (xs ≡ ys) × (x ≡ y)
-last_same [] [] x y e = (refl, heads_same x y [] [] e)
-last_same [] (b ∷ ys) x y e = absurd (no_last ys y (tails_same x b [] (ys ++ y ∷ []) e))
-last_same (a ∷ xs) [] x y e = absurd (no_last xs x (sym (tails_same a y (xs ++ x ∷ []) [] e)))
+last_same [] [] x y e = (refl, same_head x y [] [] e)
+last_same [] (b ∷ ys) x y e = absurd (no_last ys y (same_tail x b [] (ys ++ y ∷ []) e))
+last_same (a ∷ xs) [] x y e = absurd (no_last xs x (sym (same_tail a y (xs ++ x ∷ []) [] e)))
 last_same (a ∷ xs) (b ∷ ys) x y e =
-    let r = last_same xs ys x y (tails_same a b (xs ++ x ∷ []) (ys ++ y ∷ []) e) in
-    (ap₂ (λ p q. p ∷ q) (heads_same a b (xs ++ x ∷ []) (ys ++ y ∷ []) e) r.0, r.1)
-
--- there is an element at each place of a list
-pub stands_at : {A : Type 0} (xs : List A) (n : ℕ) → n < length xs → (x : A) × (slice_get xs n ≡ Some x)
-stands_at [] n p = absurd (nothing_below n p)
-  where
-    nothing_below : (k : ℕ) → k < 0 → ⊥
-    nothing_below k h = omega arith
-stands_at (x ∷ xs) zero p = (x, refl)
-stands_at (x ∷ xs) (suc n) p = stands_at xs n (one_less n (length xs) p)
-  where
-    one_less : (a b : ℕ) → suc a < suc b → a < b
-    one_less a b h = omega arith
-
-pub nothing_at : {A : Type 0} (xs : List A) (n : ℕ) → n < length xs → slice_get xs n ≡ None → ⊥
-nothing_at xs n p none = let r = stands_at xs n p in none-some r.0 (sym none ∙ r.1)
+    let r = last_same xs ys x y (same_tail a b (xs ++ x ∷ []) (ys ++ y ∷ []) e) in
+    (ap₂ (λ p q. p ∷ q) (same_head a b (xs ++ x ∷ []) (ys ++ y ∷ []) e) r.0, r.1)
 
 -- KEPT ERRANDS
 
@@ -117,7 +94,7 @@ chain-append kept more linked (suc most) (suc n) p =
     below i j k h g = omega arith
 
     not_past : slice_get kept n ≡ None → ⊥
-    not_past none = nothing_at kept n p none
+    not_past none = slice_get-not_none kept n p none
 
 pub AreLinked-front : (kept more : List Errand) → AreLinked (kept ++ more) → AreLinked kept
 AreLinked-front kept more linked n e at = linked n e (slice_get-append_left kept more n e at)
@@ -129,24 +106,19 @@ pub AreLinked-push : (kept : List Errand) (x : Errand) → AreLinked kept → x.
 AreLinked-push kept x linked low n e at =
     elim (known (slice_get kept n)) [
       | inr some ↦
-          let same : some.0 ≡ e = some_same some.0 e (sym (slice_get-append_left kept (x ∷ []) n some.0 some.1) ∙ at) in
+          let same : some.0 ≡ e = same_Some some.0 e (sym (slice_get-append_left kept (x ∷ []) n some.0 some.1) ∙ at) in
           subst (λ z. z.behind ≤ n) same (linked n some.0 some.1)
       | inl none ↦
           let within : n < length (kept ++ x ∷ []) = slice_get_within (kept ++ x ∷ []) n e at in
           let size : length (kept ++ x ∷ []) ≡ length kept + 1 = length-append kept (x ∷ []) in
-          elim (below_or_not n (length kept)) [
-            | inl less ↦ absurd (nothing_at kept n less none)
+          elim (cases_lt n (length kept)) [
+            | inl less ↦ absurd (slice_get-not_none kept n less none)
             | inr more ↦
                 let place : n ≡ length kept = omega arith in
-                let same : x ≡ e = some_same x e (sym (slice_get_push kept x) ∙ subst (λ k. slice_get (kept ++ x ∷ []) k ≡ Some e) place at) in
+                let same : x ≡ e = same_Some x e (sym (slice_get_push kept x) ∙ subst (λ k. slice_get (kept ++ x ∷ []) k ≡ Some e) place at) in
                 subst (λ z. z.behind ≤ n) same (subst (λ k. x.behind ≤ k) (sym place) low)
           ]
     ]
-  where
-    below_or_not : (a b : ℕ) → (a < b) ⊎ (b ≤ a)
-    below_or_not a zero = inr (omega arith)
-    below_or_not zero (suc b) = inl (omega arith)
-    below_or_not (suc a) (suc b) = elim (below_or_not a b) [ inl h ↦ inl (omega arith) | inr h ↦ inr (omega arith) ]
 
 -- behind the errand that was kept last comes what is behind that one
 pub chain-pushed : (kept : List Errand) (then : Errand) (n : ℕ) → AreLinked kept → then.behind ≤ length kept → n ≡ suc (length kept)

@@ -1,60 +1,16 @@
 -- Each name of a list once, by first place.
-use Rattle.std.specs.Prelude.{◌≡◌, List, [], ◌∷◌, ◌++◌, Bool, true, false, ◌==◌, if◌then◌else◌, not, ◌⊎◌, refl, map, ◌||◌}
+use Rattle.std.specs.Prelude.{◌≡◌, List, [], ◌∷◌, ◌++◌, Bool, true, false, ◌==◌, if◌then◌else◌, not, refl, map, ◌||◌}
 use Rattle.std.specs.List.{filter, list_any}
 use Rattle.std.proofs.Common.{inl, inr, ap, sym, ◌∙◌, subst, ℕ, ◌+◌, ◌<◌, length, take, get_or}
 use Rattle.std.proofs.lemmas.List.{take_more}
 use Rattle.gr_base.proofs.ListLemmas.{IsAmong-one_more}
 use Rattle.gr_base.specs.Lists.{IsAmong}
+use Rattle.gr_base.proofs.Booleans.{not_not, or_true}
 use Rattle.gr_terms.specs.declared.Sym.{Sym}
+use Rattle.gr_terms.proofs.ViewLemmas.{same_sym}
 use Rattle.mg_scope.specs.Classes.{firsts}
-use Rattle.mg_scope.proofs.TableLemmas.{Compared, same_name, other_name, compared, same_number, other_number, same_sym}
-
-filter-append : (p : Sym → Bool) (xs ys : List Sym) → filter p (xs ++ ys) ≡ filter p xs ++ filter p ys
-filter-append p [] ys = refl
-filter-append p (x ∷ xs) ys = by (p x) (filter-append p xs ys)
-  where
-    by : (t : Bool) → filter p (xs ++ ys) ≡ filter p xs ++ filter p ys → (if t then x ∷ filter p (xs ++ ys) else filter p (xs ++ ys)) ≡ (if t then x ∷ filter p xs else filter p xs) ++ filter p ys
-    by true e = ap (λ z. x ∷ z) e
-    by false e = e
-
-nothing_more : (xs : List Sym) → xs ++ [] ≡ xs
-nothing_more [] = refl
-nothing_more (x ∷ xs) = ap (λ z. x ∷ z) (nothing_more xs)
-
-among_or_not : (xs : List Sym) (x : Sym) → IsAmong xs x ⊎ (IsAmong xs x → ⊥)
-among_or_not [] x = inr (λ i. i)
-among_or_not (y ∷ ys) x = by (compared x y) (among_or_not ys x)
-  where
-    by : Compared x y → IsAmong ys x ⊎ (IsAmong ys x → ⊥) → IsAmong (y ∷ ys) x ⊎ (IsAmong (y ∷ ys) x → ⊥)
-    by (same_name e) more = inl (inl e)
-    by (other_name o) (inl i) = inl (inr i)
-    by (other_name o) (inr n) = inr (λ i. elim i [ inl e ↦ o e | inr j ↦ n j ])
-
--- the test for another name, at the name and at others
-drops : (y x : Sym) → x ≡ y → filter (λ (z : Sym). not (z.0 == y.0)) (x ∷ []) ≡ []
-drops y x e = ap (λ b. if not b then x ∷ [] else []) (same_number x.0 y.0 (ap (λ (s : Sym). s.0) e))
-
-keeps : (y x : Sym) → (x ≡ y → ⊥) → filter (λ (z : Sym). not (z.0 == y.0)) (x ∷ []) ≡ x ∷ []
-keeps y x o = ap (λ b. if not b then x ∷ [] else []) (other_number x.0 y.0 (λ e. o (same_sym x y e)))
-
-firsts_new : (xs : List Sym) (x : Sym) → (IsAmong xs x → ⊥) → firsts (xs ++ x ∷ []) ≡ firsts xs ++ x ∷ []
-firsts_new [] x new = refl
-firsts_new (y ∷ ys) x new =
-    ap (λ z. y ∷ filter (λ (z : Sym). not (z.0 == y.0)) z) (firsts_new ys x (λ i. new (inr i)))
-    ∙ ap (λ z. y ∷ z) (filter-append (λ (z : Sym). not (z.0 == y.0)) (firsts ys) (x ∷ [])
-    ∙ ap (λ z. filter (λ (z : Sym). not (z.0 == y.0)) (firsts ys) ++ z) (keeps y x (λ e. new (inl e))))
-
-firsts_known : (xs : List Sym) (x : Sym) → IsAmong xs x → firsts (xs ++ x ∷ []) ≡ firsts xs
-firsts_known [] x i = absurd i
-firsts_known (y ∷ ys) x i = by (among_or_not ys x) i (firsts_known ys x)
-  where
-    by : IsAmong ys x ⊎ (IsAmong ys x → ⊥) → IsAmong (y ∷ ys) x → (IsAmong ys x → firsts (ys ++ x ∷ []) ≡ firsts ys) → firsts (y ∷ ys ++ x ∷ []) ≡ firsts (y ∷ ys)
-    by (inl j) i more = ap (λ z. y ∷ filter (λ (z : Sym). not (z.0 == y.0)) z) (more j)
-    by (inr n) (inl e) more =
-        ap (λ z. y ∷ filter (λ (z : Sym). not (z.0 == y.0)) z) (firsts_new ys x n)
-        ∙ ap (λ z. y ∷ z) (filter-append (λ (z : Sym). not (z.0 == y.0)) (firsts ys) (x ∷ [])
-        ∙ ap (λ z. filter (λ (z : Sym). not (z.0 == y.0)) (firsts ys) ++ z) (drops y x e) ∙ nothing_more (filter (λ (z : Sym). not (z.0 == y.0)) (firsts ys)))
-    by (inr n) (inr j) more = absurd (n j)
+use Rattle.mg_scope.proofs.TableLemmas.{Compared, same_name, other_name, compared, same_number, other_number}
+use Rattle.mg_scope.proofs.FirstLemmas.{firsts_new, firsts_known}
 
 IsAmong-filter : (p : Sym → Bool) (xs : List Sym) (x : Sym) → IsAmong xs x → p x ≡ true → IsAmong (filter p xs) x
 IsAmong-filter p [] x i h = absurd i
@@ -116,10 +72,6 @@ number s = s.0
 abbrev has_number : List ℕ → ℕ → Bool
 has_number keys n = list_any (λ b. n == b) keys
 
-or_true : (b : Bool) → (b || true) ≡ true
-or_true true = refl
-or_true false = refl
-
 has_number-among : (names : List Sym) (x : Sym) → IsAmong names x → has_number (map number names) x.0 ≡ true
 has_number-among [] x i = absurd i
 has_number-among (y ∷ ys) x (inl e) = ap (λ b. b || has_number (map number ys) x.0) (same_number x.0 y.0 (ap number e))
@@ -135,10 +87,6 @@ IsAmong-numbered (y ∷ ys) x e = by (compared x y) (IsAmong-numbered ys x)
     by : Compared x y → (has_number (map number ys) x.0 ≡ true → IsAmong ys x) → IsAmong (y ∷ ys) x
     by (same_name q) more = inl q
     by (other_name o) more = inr (more (sym (ap (λ b. b || has_number (map number ys) x.0) (other_number x.0 y.0 (λ q. o (same_sym x y q)))) ∙ e))
-
-not_not : (b : Bool) → not (not b) ≡ b
-not_not true = refl
-not_not false = refl
 
 -- a number among those met is that of a name, and another one isn't
 met_of : (names : List Sym) (x : Sym) {keys : List ℕ} {new : Bool} → keys ≡ map number names → new ≡ not (has_number keys x.0) → has_number (map number names) x.0 ≡ not new

@@ -1,9 +1,10 @@
 -- Each class has a list of all its expansions, since no class leads back to itself.
 use Rattle.std.specs.Prelude.{◌≡◌, ℕ, zero, suc, ◌+◌, ◌≤◌, List, [], ◌∷◌, ◌++◌, map, length, Some, refl}
 use Rattle.std.proofs.Common.{inl, inr, ap, ap₂, sym, ◌∙◌, subst, arith}
-use Rattle.gr_base.specs.Lists.{IsAmong, IsWithin, NoneTwice, gathered, joined}
+use Rattle.gr_base.specs.Lists.{IsAmong, IsWithin, NoneTwice, gathered}
 use Rattle.gr_base.proofs.ListLemmas.{Each-at, Each-members, IsAmong-append, IsAmong-append_left, IsAmong-append_right, IsAmong-map_from, IsAmong-slice_get, IsAmong-gathered, IsAmong-gathered_from}
 use Rattle.gr_base.proofs.Counting.{length-within}
+use Rattle.gr_base.proofs.Gathering.{joined-twice}
 use Rattle.gr_terms.specs.declared.Sym.{Sym}
 use Rattle.mg_syntax.specs.declared.body.Statement.{Statement, out-Statement, fold_out-Statement, map-Statement}
 use Rattle.mg_syntax.specs.declared.body.Statement.TheOpen as open_statement
@@ -93,14 +94,6 @@ smaller b rest s n i h =
 
 called_within : (us vs : List Use) → IsWithin us vs → IsWithin (called_classes us) (called_classes vs)
 called_within us vs f c i = let r = IsAmong-gathered_from called_class us c i in IsAmong-gathered called_class vs r.0 c (f r.0 r.1) r.2
-
-joined-map : {A B : Type 0} (f : A → List B) (xs : List A) → joined (map f xs) ≡ gathered f xs
-joined-map f [] = refl
-joined-map f (x ∷ xs) = ap (λ z. f x ++ z) (joined-map f xs)
-
-joined-twice : {A B : Type 0} (f : A → List B) (xss : List (List A)) → joined (map joined (map (map f) xss)) ≡ gathered (gathered f) xss
-joined-twice f [] = refl
-joined-twice f (xs ∷ xss) = ap₂ (λ a b. a ++ b) (joined-map f xs) (joined-twice f xss)
 
 -- the classes that a task calls
 abbrev calls_of : Task → List Sym

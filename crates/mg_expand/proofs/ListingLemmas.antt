@@ -1,7 +1,7 @@
 -- All walks of given tasks as one list.
 use Rattle.std.specs.Prelude.{◌≡◌, ℕ, zero, suc, ◌+◌, ◌<◌, List, [], ◌∷◌, ◌++◌, map, Some, refl, slice_get}
 use Rattle.std.proofs.Common.{inl, inr, ap, sym, ◌∙◌, subst, arith}
-use Rattle.std.proofs.lemmas.Option.{none-some}
+use Rattle.std.proofs.lemmas.Option.{none-some, same_Some}
 use Rattle.gr_base.specs.Lists.{IsAmong, gathered}
 use Rattle.gr_base.proofs.ListLemmas.{IsAmong-append, IsAmong-append_left, IsAmong-append_right, IsAmong-map, IsAmong-map_from, IsAmong-gathered, IsAmong-gathered_from}
 use Rattle.gr_terms.specs.declared.Sym.{Sym}
@@ -22,9 +22,6 @@ nothing_plus n = omega arith
 
 plus_more : (n i : ℕ) → suc n + i ≡ n + suc i
 plus_more n i = omega arith
-
-some_same : {A : Type 0} (x y : A) → Some x ≡ Some y → x ≡ y
-some_same x y e = cc
 
 -- all walks of the tasks, in order
 pub record AreWalks (m : List Item) (ts : List Task) (ws : List Walk) : Type 0 where
@@ -114,7 +111,7 @@ module _ (m : List Item) where
       all zero a w e d =
           subst (λ k. IsAmong (map (choose n) ws ++ vs) (choose k w)) (plus_nothing n)
           (IsAmong-append_left (map (choose n) ws) vs (choose n w)
-          (IsAmong-map (choose n) ws w (h.all w (subst (λ z. Does m (map task_of z ++ rest) w) (some_same a s (sym e)) d))))
+          (IsAmong-map (choose n) ws w (h.all w (subst (λ z. Does m (map task_of z ++ rest) w) (same_Some a s (sym e)) d))))
       all (suc i) a w e d =
           subst (λ k. IsAmong (map (choose n) ws ++ vs) (choose k w)) (plus_more n i)
           (IsAmong-append_right (map (choose n) ws) vs (choose (suc n + i) w) (g.all i a w e d))

@@ -1,7 +1,9 @@
 -- Walks of tasks, and where tasks that are due lead.
 use Rattle.std.specs.Prelude.{◌≡◌, ℕ, ◌+◌, List, [], ◌∷◌, ◌++◌, map, Some, refl}
 use Rattle.std.proofs.Common.{ap, ap₂, sym, ◌∙◌, subst, arith, append_assoc}
+use Rattle.std.proofs.lemmas.List.{append-nil, map-append}
 use Rattle.gr_base.specs.Lists.{gathered}
+use Rattle.gr_base.proofs.Gathering.{gathered-append, gathered-map, gathered-same}
 use Rattle.gr_terms.specs.declared.Sym.{Sym}
 use Rattle.mg_syntax.specs.declared.body.Statement.{Statement}
 use Rattle.mg_syntax.specs.declared.item.Class.{Class}
@@ -17,10 +19,6 @@ use Rattle.mg_expand.specs.Routes.{Due, due, dues, Outcome, outcome, LeadsOn, ar
 
 -- LISTS
 
-append_nothing : {A : Type 0} (xs : List A) → xs ++ [] ≡ xs
-append_nothing [] = refl
-append_nothing (x ∷ xs) = ap (λ ys. x ∷ ys) (append_nothing xs)
-
 plus_nothing : (n : ℕ) → n + 0 ≡ n
 plus_nothing n = omega arith
 
@@ -30,29 +28,13 @@ regroup a b c = omega arith
 regroup_more : (a b c d : ℕ) → a + b + c + d ≡ a + (b + c + d)
 regroup_more a b c d = omega arith
 
-pub gathered-append : {A B : Type 0} (f : A → List B) (xs ys : List A) → gathered f (xs ++ ys) ≡ gathered f xs ++ gathered f ys
-gathered-append f [] ys = refl
-gathered-append f (x ∷ xs) ys = ap (λ z. f x ++ z) (gathered-append f xs ys) ∙ sym (append_assoc (f x) (gathered f xs) (gathered f ys))
-
-gathered-map : {A B C : Type 0} (f : A → B) (g : B → List C) (xs : List A) → gathered g (map f xs) ≡ gathered (λ x. g (f x)) xs
-gathered-map f g [] = refl
-gathered-map f g (x ∷ xs) = ap (λ z. g (f x) ++ z) (gathered-map f g xs)
-
 gathered-gathered : {A B C : Type 0} (f : A → List B) (g : B → List C) (xs : List A) → gathered g (gathered f xs) ≡ gathered (λ x. gathered g (f x)) xs
 gathered-gathered f g [] = refl
 gathered-gathered f g (x ∷ xs) = gathered-append g (f x) (gathered f xs) ∙ ap (λ z. gathered g (f x) ++ z) (gathered-gathered f g xs)
 
-gathered-same : {A B : Type 0} (f g : A → List B) → ((x : A) → f x ≡ g x) → (xs : List A) → gathered f xs ≡ gathered g xs
-gathered-same f g e [] = refl
-gathered-same f g e (x ∷ xs) = ap₂ (λ a b. a ++ b) (e x) (gathered-same f g e xs)
-
 gathered-singles : {A B : Type 0} (f : A → B) (xs : List A) → gathered (λ x. f x ∷ []) xs ≡ map f xs
 gathered-singles f [] = refl
 gathered-singles f (x ∷ xs) = ap (λ z. f x ∷ z) (gathered-singles f xs)
-
-map-append : {A B : Type 0} (f : A → B) (xs ys : List A) → map f (xs ++ ys) ≡ map f xs ++ map f ys
-map-append f [] ys = refl
-map-append f (x ∷ xs) ys = ap (λ z. f x ∷ z) (map-append f xs ys)
 
 module _ (m : List Item) where
   -- how it goes on after a walk, from what it left
@@ -71,7 +53,7 @@ module _ (m : List Item) where
   pub routed-none : AreRouted [] (end ∷ [])
   routed-none here rest on f n said =
       subst (λ z. LeadsOn m rest n said z)
-      (sym (append_nothing (on (n + 0) (said ++ [])) ∙ same_end on (n + 0) n (said ++ []) said (plus_nothing n) (append_nothing said)))
+      (sym (append-nil (on (n + 0) (said ++ [])) ∙ same_end on (n + 0) n (said ++ []) said (plus_nothing n) (append-nil said)))
       (f n said)
 
   pub routed-deed : (d : Deed) (ts : List Task) (ws : List Walk) → AreRouted ts ws → AreRouted (a_deed d ∷ ts) (map (perform d) ws)
@@ -144,7 +126,7 @@ module _ (m : List Item) where
   routed-last i s ts ws h here rest on f n said =
       by_last here s (dues here ts ++ rest) n said (gathered (ends on here n said) (map (choose i) ws ++ []))
       (subst (λ z. LeadsOn m (dues here (map task_of s) ++ (dues here ts ++ rest)) n said z)
-      (sym (ap (gathered (ends on here n said)) (append_nothing (map (choose i) ws)) ∙ gathered-map (choose i) (ends on here n said) ws))
+      (sym (ap (gathered (ends on here n said)) (append-nil (map (choose i) ws)) ∙ gathered-map (choose i) (ends on here n said) ws))
       (alternative_first s ts here rest n said (gathered (ends on here n said) ws) (h here rest on f n said)))
 
   pub routed-first : (i : ℕ) (s t : List Statement) (b : List (List Statement)) (ts : List Task) (ws vs : List Walk) → AreRouted (map task_of s ++ ts) ws
@@ -160,7 +142,7 @@ module _ (m : List Item) where
   pub routed-whole : (k : Class) (ws : List Walk) → AreRouted (tasks_of k) ws → LeadsOn m (dues 0 (tasks_of k)) 1 [] (map (outcome m) ws)
   routed-whole k ws h =
       subst (λ z. LeadsOn m (dues 0 (tasks_of k)) 1 [] z) (gathered-singles (outcome m) ws)
-      (subst (λ z. LeadsOn m z 1 [] (gathered (ends on 0 1 []) ws)) (append_nothing (dues 0 (tasks_of k)))
+      (subst (λ z. LeadsOn m z 1 [] (gathered (ends on 0 1 []) ws)) (append-nil (dues 0 (tasks_of k)))
       (h 0 [] on (λ n said. arrives n said) 1 []))
     where
       on : ℕ → List Said → List Outcome

@@ -4,7 +4,7 @@ use Rattle.std.proofs.Common.{ap, sym, ◌∙◌, subst, arith, append_assoc}
 use Rattle.std.proofs.Math.Nat.{mul-le-mul_left}
 use Rattle.std.proofs.Math.Seq.{take-length}
 use Rattle.std.proofs.lemmas.List.{take-append-le, length-append}
-use Rattle.std.proofs.lemmas.Option.{slice_get_within}
+use Rattle.std.proofs.lemmas.Option.{slice_get_within, same_Some}
 use Rattle.gr_base.specs.Lists.{IsAmong}
 use Rattle.gr_terms.specs.declared.Sym.{Sym}
 use Rattle.mg_syntax.specs.declared.body.Statement.{Statement}
@@ -26,7 +26,7 @@ use Rattle.mg_expand.specs.Routes.{Due, due, dues, Outcome, LeadsOn}
 use Rattle.mg_expand.specs.Errands.{work_tasks, chain, all_dues, dues_from, AreLinked, Forking, no_fork, a_fork, Leads, all_size, steps_left, Arrives, IsNextTooLarge}
 use Rattle.mg_expand.specs.Walkers.{IsCall}
 use Rattle.mg_expand.proofs.FiniteLemmas.{sum_of-map, sum_of-same, sum_of-at, statement_size-task}
-use Rattle.mg_expand.proofs.ErrandLemmas.{some_same, chain-pushed, chain-behind, AreLinked-push, LeadsOn-deed, LeadsOn-call, LeadsOn-none, LeadsOn-last, LeadsOn-first, LeadsOn-end, LeadsOn-first_outcome}
+use Rattle.mg_expand.proofs.ErrandLemmas.{chain-pushed, chain-behind, AreLinked-push, LeadsOn-deed, LeadsOn-call, LeadsOn-none, LeadsOn-last, LeadsOn-first, LeadsOn-end, LeadsOn-first_outcome}
 
 -- LISTS THAT GROW
 
@@ -159,7 +159,7 @@ module _ (m : List Item) where
             subst (λ z. LeadsOn m (dues n (tasks_of k) ++ all_dues z) (n + call_weight m how c) (said ++ call_said m how then.here n c) h.first)
             (sym (chain-pushed kept then next h.linked h.behind number))
             (subst (λ z. LeadsOn m (dues n (tasks_of z) ++ dues_from kept then.here (work_tasks then.work) then.behind) (n + call_weight m how c) (said ++ call_said m how then.here n c) h.first)
-            (some_same r.0 k (sym r.1 ∙ at)) r.2);
+            (same_Some r.0 k (sym r.1 ∙ at)) r.2);
         forking = Forking-grown kept (kept ++ then ∷ []) said (said ++ call_said m how then.here n c) forks h.later
             (grew-append kept (then ∷ [])) (grew-append said (call_said m how then.here n c)) h.forking;
         whole = h.whole;

@@ -1,32 +1,25 @@
 -- Expansions with the same choices are the same, and choices of different ones first differ somewhere.
-use Rattle.std.specs.Prelude.{◌≡◌, ℕ, zero, suc, ◌<◌, List, [], ◌∷◌, ◌++◌, map, Some, ◌⊎◌, refl}
-use Rattle.std.proofs.Common.{inl, inr, ap, ap₂, sym, ◌∙◌, subst, arith}
+use Rattle.std.specs.Prelude.{◌≡◌, ℕ, ◌<◌, List, [], ◌∷◌, ◌++◌, map, ◌⊎◌, refl}
+use Rattle.std.proofs.Common.{inl, inr, ap, ap₂, sym, ◌∙◌, subst}
+use Rattle.std.proofs.lemmas.Option.{same_Some}
 use Rattle.gr_base.specs.Forests.{IsLeftOf}
 use Rattle.gr_base.proofs.ListLemmas.{Each-at}
+use Rattle.gr_base.proofs.Numbers.{less_same_more}
 use Rattle.gr_terms.specs.declared.Sym.{Sym}
 use Rattle.mg_syntax.specs.declared.body.Statement.{Statement}
 use Rattle.mg_syntax.specs.declared.item.Item.{Item}
 use Rattle.mg_expand.specs.Walks.{How, Walk, choose, perform, enter, Task, task_of, tasks_of, IsAlternative, Does, done, takes, performs, enters, IsExpansion, choices, IsEarlier, InChoiceOrder, AreExpansions}
 use Rattle.mg_expand.proofs.OrderLemmas.{IsLeftOf-append, IsLeftOf-behind, IsLeftOf-irreflexive, IsLeftOf-through, InOrder, InOrder-unique}
 
-some_same : {A : Type 0} (x y : A) → Some x ≡ Some y → x ≡ y
-some_same x y e = cc
-
 pub one_alternative : (b : List (List Statement)) (i : ℕ) (s t : List Statement) → IsAlternative b i s → IsAlternative b i t → s ≡ t
 one_alternative [] i s t h k = h.1 ∙ sym k.1
-one_alternative (a ∷ b) i s t h k = some_same s t (sym h ∙ k)
+one_alternative (a ∷ b) i s t h k = same_Some s t (sym h ∙ k)
 
 -- two walks of the same tasks are one, or the choices of one are left of those of the other
 pub data Compared (w v : Walk) : Type 0 where
   same_walk : w ≡ v → Compared w v
   earlier : IsEarlier w v → Compared w v
   later : IsEarlier v w → Compared w v
-
-less_or_more : (i j : ℕ) → (i < j) ⊎ ((i ≡ j) ⊎ (j < i))
-less_or_more zero zero = inr (inl refl)
-less_or_more zero (suc j) = inl (omega arith)
-less_or_more (suc i) zero = inr (inr (omega arith))
-less_or_more (suc i) (suc j) = elim (less_or_more i j) [ inl l ↦ inl (omega arith) | inr r ↦ elim r [ inl e ↦ inr (inl (ap (λ n. suc n) e)) | inr l ↦ inr (inr (omega arith)) ] ]
 
 compare_choices : (i j : ℕ) (w v : Walk) → (i < j) ⊎ ((i ≡ j) ⊎ (j < i)) → (i ≡ j → Compared w v) → Compared (choose i w) (choose j v)
 compare_choices i j w v (inl l) f = earlier (inl l)
@@ -48,17 +41,17 @@ module _ (m : List Item) where
   compare _ _ _ done done = same_walk refl
   compare _ _ _ (performs d a) (performs _ b) = elim (compare _ _ _ a b) [ same_walk e ↦ same_walk (ap (perform d) e) | earlier l ↦ earlier l | later l ↦ later l ]
   compare _ _ _ (takes {rest} {w} b i s alt a) (takes {w = v} _ j t other c) =
-      compare_choices i j w v (less_or_more i j)
+      compare_choices i j w v (less_same_more i j)
       (λ (e : i ≡ j).
       let same = one_alternative b j s t (subst (λ n. IsAlternative b n s) e alt) other in
       compare (map task_of t ++ rest) w v (subst (λ z. Does m (map task_of z ++ rest) w) same a) c)
   compare _ _ _ (enters {rest = rest} {inside = w} {after = w2} how c k at a b) (enters {inside = v} {after = v2} _ _ k2 at2 a2 b2) =
       compare_calls how c w v w2 v2
-      (compare (tasks_of k2) w v (subst (λ z. Does m (tasks_of z) w) (some_same k k2 (sym at ∙ at2)) a) a2)
+      (compare (tasks_of k2) w v (subst (λ z. Does m (tasks_of z) w) (same_Some k k2 (sym at ∙ at2)) a) a2)
       (compare rest w2 v2 b b2)
 
   pub IsExpansion-compared : (c : Sym) (w v : Walk) → IsExpansion m c w → IsExpansion m c v → Compared w v
-  IsExpansion-compared c w v h k = compare (tasks_of k.0) w v (subst (λ z. Does m (tasks_of z) w) (some_same h.0 k.0 (sym h.1 ∙ k.1)) h.2) k.2
+  IsExpansion-compared c w v h k = compare (tasks_of k.0) w v (subst (λ z. Does m (tasks_of z) w) (same_Some h.0 k.0 (sym h.1 ∙ k.1)) h.2) k.2
 
 pub same_choices : (m : List Item) (c : Sym) (w v : Walk) → IsExpansion m c w → IsExpansion m c v → choices w ≡ choices v → w ≡ v
 same_choices m c w v h k e =

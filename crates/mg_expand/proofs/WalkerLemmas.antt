@@ -1,6 +1,7 @@
 -- What the parts of a step make of a walker.
 use Rattle.std.specs.Prelude.{◌≡◌, ℕ, zero, suc, ◌+◌, ◌-◌, ◌<◌, ◌≤◌, List, [], ◌∷◌, ◌++◌, map, length, Some, None, slice_get, refl}
 use Rattle.std.proofs.Common.{ap, ap₂, sym, ◌∙◌, subst, arith, inl}
+use Rattle.std.proofs.lemmas.List.{append-nil, nil_from_length}
 use Rattle.gr_terms.specs.declared.Sym.{Sym}
 use Rattle.mg_syntax.specs.declared.body.Statement.{Statement, out-Statement, out-roll-Statement}
 use Rattle.mg_syntax.specs.declared.body.Statement.TheVariants as rolled
@@ -57,17 +58,6 @@ deed_task s d e = by (out-Statement s) e
     by (statement.Syn items) p = same _ p
     by (statement.Sem literals) p = same _ p
     by (statement.Iface bag) p = same _ p
-
-pub no_elements : {A : Type 0} (xs : List A) → length xs ≡ 0 → xs ≡ []
-no_elements [] e = refl
-no_elements (x ∷ xs) e = absurd (no_zero (length xs) e)
-  where
-    no_zero : (n : ℕ) → suc n ≡ 0 → ⊥
-    no_zero n p = omega arith
-
-append_nothing : {A : Type 0} (xs : List A) → xs ++ [] ≡ xs
-append_nothing [] = refl
-append_nothing (x ∷ xs) = ap (λ ys. x ∷ ys) (append_nothing xs)
 
 -- what is not at most b is above it
 above : (a b : ℕ) → (a ≤ b → ⊥) → b < a
@@ -185,7 +175,7 @@ module _ (m : List Item) where
       → Stepped m old then.here (a_call called c ∷ work_tasks then.work) then.behind new (On e)
   stepped-plain old mid new then e c k at few is enters =
       stepped-call old mid new then e called c k at (one_more old.items few)
-      (record { as_kept = is.as_kept; as_said = is.as_said ∙ sym (append_nothing old.facts); as_forks = is.as_forks; as_items = is.as_items }) enters
+      (record { as_kept = is.as_kept; as_said = is.as_said ∙ sym (append-nil old.facts); as_forks = is.as_forks; as_items = is.as_items }) enters
     where
       one_more : (a : ℕ) → a < 4096 → a + 1 ≤ 4096
       one_more a p = omega arith
@@ -252,7 +242,7 @@ module _ (m : List Item) where
       (at_errand outs (subst (λ z. LeadsFrom m w here (a_choice z ∷ []) next outs) empty h))
     where
       empty : b ≡ []
-      empty = no_elements b none
+      empty = nil_from_length b none
 
       at_errand : (outs : List Outcome) → LeadsFrom m w here (a_choice [] ∷ []) next outs → Goes m w e outs × (2 + left_for m w e ≤ left_of m w (a_choice [] ∷ []) next)
       at_errand outs h =
@@ -271,7 +261,7 @@ module _ (m : List Item) where
       (at_errand outs (subst (λ z. LeadsFrom m w here (a_choice z ∷ []) next outs) one h))
     where
       one : b ≡ s ∷ []
-      one = split ∙ ap (λ z. s ∷ z) (no_elements rest none)
+      one = split ∙ ap (λ z. s ∷ z) (nil_from_length rest none)
 
       at_errand : (outs : List Outcome) → LeadsFrom m w here (a_choice (s ∷ []) ∷ []) next outs → Goes m w e outs × (2 + left_for m w e ≤ left_of m w (a_choice (s ∷ []) ∷ []) next)
       at_errand outs h =

@@ -1,7 +1,8 @@
 -- Where an expander stands, and what it answers.
 use Rattle.std.specs.Prelude.{◌≡◌, ℕ, suc, ◌+◌, ◌<◌, ◌≤◌, List, [], ◌∷◌, ◌++◌, map, length, take, Bool, true, false, Some, slice_get, refl}
 use Rattle.std.proofs.Common.{ap, sym, ◌∙◌, subst, arith, append_assoc}
-use Rattle.std.proofs.lemmas.List.{length-append, length-take-le}
+use Rattle.std.proofs.lemmas.List.{length-append, length-take-le, length-map, append-nil}
+use Rattle.gr_base.proofs.ListLemmas.{same_head, same_tail}
 use Rattle.gr_terms.specs.declared.Sym.{Sym}
 use Rattle.mg_syntax.specs.declared.item.Class.{Class}
 use Rattle.mg_syntax.specs.declared.item.Item.{Item}
@@ -29,20 +30,6 @@ use Rattle.mg_expand.proofs.ErrandLemmas.{last_same, no_last, AreLinked-take, Le
 
 -- LISTS
 
-append_nothing : {A : Type 0} (xs : List A) → xs ++ [] ≡ xs
-append_nothing [] = refl
-append_nothing (x ∷ xs) = ap (λ ys. x ∷ ys) (append_nothing xs)
-
-length-map : {A B : Type 0} (f : A → B) (xs : List A) → length (map f xs) ≡ length xs
-length-map f [] = refl
-length-map f (x ∷ xs) = ap (λ n. suc n) (length-map f xs)
-
-heads_same : {A : Type 0} (x y : A) (xs ys : List A) → x ∷ xs ≡ y ∷ ys → x ≡ y
-heads_same x y xs ys e = cc
-
-tails_same : {A : Type 0} (x y : A) (xs ys : List A) → x ∷ xs ≡ y ∷ ys → xs ≡ ys
-tails_same x y xs ys e = cc
-
 not_empty : {A : Type 0} (x : A) (xs : List A) → [] ≡ x ∷ xs → ⊥
 not_empty x xs e = cc
 
@@ -50,9 +37,9 @@ not_empty x xs e = cc
 image_at : {A B : Type 0} (f : A → B) (xs : List A) (before : List B) (y : B) (later : List B) → map f xs ≡ before ++ y ∷ later
     → (x : A) × (slice_get xs (length before) ≡ Some x) × (f x ≡ y)
 image_at f [] [] y later e = absurd (not_empty y later e)
-image_at f (x ∷ xs) [] y later e = (x, refl, heads_same (f x) y (map f xs) later e)
+image_at f (x ∷ xs) [] y later e = (x, refl, same_head (f x) y (map f xs) later e)
 image_at f [] (z ∷ before) y later e = absurd (not_empty z (before ++ y ∷ later) e)
-image_at f (x ∷ xs) (z ∷ before) y later e = image_at f xs before y later (tails_same (f x) z (map f xs) (before ++ y ∷ later) e)
+image_at f (x ∷ xs) (z ∷ before) y later e = image_at f xs before y later (same_tail (f x) z (map f xs) (before ++ y ∷ later) e)
 
 -- FORKS
 
@@ -107,14 +94,14 @@ module _ (m : List Item) where
   pub all-given : (c : Sym) (given : ℕ) (w : Walker) (ws : List Walk) → Underway m c given w → w.forks.items ≡ [] → AreExpansions m c ws → given ≡ length ws
   all-given c given w ws u none h =
       let no_outs : u.outs ≡ [] = Forking-none w.kept.items w.facts w.forks.items u.outs none u.stands.forking in
-      sym u.count ∙ ap length (sym (u.all ws h ∙ ap (λ z. u.before ++ z) no_outs ∙ append_nothing u.before)) ∙ length-map (outcome m) ws
+      sym u.count ∙ ap length (sym (u.all ws h ∙ ap (λ z. u.before ++ z) no_outs ∙ append-nil u.before)) ∙ length-map ws (outcome m)
 
   pub one-left : (c : Sym) (given : ℕ) (w : Walker) (ws : List Walk) → Underway m c given w → 0 < length w.forks.items → AreExpansions m c ws → given < length ws
   one-left c given w ws u some h =
       let r = Forking-some w.kept.items w.facts w.forks.items u.outs some u.stands.forking in
       let e : length (map (outcome m) ws) ≡ length (u.before ++ r.0 ∷ r.1) = ap length (u.all ws h ∙ ap (λ z. u.before ++ z) r.2) in
       let p : length (u.before ++ r.0 ∷ r.1) ≡ length u.before + length (r.0 ∷ r.1) = length-append u.before (r.0 ∷ r.1) in
-      more (length ws) (length u.before) given (length r.1) (sym (length-map (outcome m) ws) ∙ e ∙ p) u.count
+      more (length ws) (length u.before) given (length r.1) (sym (length-map ws (outcome m)) ∙ e ∙ p) u.count
     where
       more : (a b g n : ℕ) → a ≡ b + suc n → b ≡ g → g < a
       more a b g n p q = omega arith
@@ -169,7 +156,7 @@ module _ (m : List Item) where
   pub one_expansion : (c : Sym) (k : Class) (ws : List Walk) → IsScoped m → class_of m c ≡ Some k → AreExpansions m c ws → 0 < length ws
   one_expansion c k ws scoped at h =
       let r = LeadsOn-first_outcome m (dues 0 (tasks_of k)) 1 [] (map (outcome m) ws) (expansions_are_led_to m c k scoped at ws h) in
-      let e : length ws ≡ suc (length r.1) = sym (length-map (outcome m) ws) ∙ ap length r.2 in
+      let e : length ws ≡ suc (length r.1) = sym (length-map ws (outcome m)) ∙ ap length r.2 in
       omega arith
 
   pub underway-first : (c : Sym) (k : Class) (w : Walker) (f : Fork) → IsScoped m → class_of m c ≡ Some k
@@ -196,7 +183,7 @@ module _ (m : List Item) where
           no_item i x q = cc
 
       leads : LeadsOn m (dues_from [] 0 (tasks_of k) 0) 1 [] (map (outcome m) all.0)
-      leads = subst (λ z. LeadsOn m z 1 [] (map (outcome m) all.0)) (sym (append_nothing (dues 0 (tasks_of k)))) (expansions_are_led_to m c k scoped at all.0 all.1)
+      leads = subst (λ z. LeadsOn m z 1 [] (map (outcome m) all.0)) (sym (append-nil (dues 0 (tasks_of k)))) (expansions_are_led_to m c k scoped at all.0 all.1)
 
       from_fork : LeadsOn m (dues_from (take f.kept []) f.errand.here (work_tasks f.errand.work) f.errand.behind) f.items (take f.said []) (map (outcome m) all.0)
       from_fork =
@@ -208,7 +195,7 @@ module _ (m : List Item) where
           (subst (λ z. LeadsOn m (dues_from [] 0 (tasks_of k) 0) 1 (take z []) (map (outcome m) all.0)) (sym as_said) leads)))))
 
       one_fork : Forking m [] [] w.forks.items (map (outcome m) all.0)
-      one_fork = a_fork [] [] [] w.forks.items f (map (outcome m) all.0) [] (map (outcome m) all.0) forks (sym (append_nothing (map (outcome m) all.0)))
+      one_fork = a_fork [] [] [] w.forks.items f (map (outcome m) all.0) [] (map (outcome m) all.0) forks (sym (append-nil (map (outcome m) all.0)))
           (subst (λ z. z ≤ 0) (sym as_kept) (zero_low 0)) (subst (λ z. z ≤ 0) (sym as_said) (zero_low 0)) (subst (λ z. z ≤ 4096) (sym as_counted) one_few)
           (subst (λ z. z ≤ f.kept) (sym behind) (zero_low f.kept)) from_fork no_more
         where

@@ -1,9 +1,10 @@
 -- Facts clash exactly where the network doesn't agree, a root has two colours, or a variable of a node stands as a value; and the nodes in order.
-use Rattle.std.specs.Prelude.{◌≡◌, ℕ, zero, suc, ◌+◌, ◌*◌, ◌<◌, ◌≤◌, List, [], ◌∷◌, ◌++◌, map, length, get_or, slice_get, Bool, true, false, Option, Some, None, ◌⊎◌, refl}
+use Rattle.std.specs.Prelude.{◌≡◌, ℕ, ◌+◌, ◌*◌, ◌<◌, ◌≤◌, List, [], ◌∷◌, ◌++◌, map, length, get_or, Bool, true, false, Option, Some, None, ◌⊎◌, refl}
 use Rattle.std.proofs.Common.{inl, inr, ap, ap₂, sym, ◌∙◌, subst, arith}
 use Rattle.std.proofs.lemmas.List.{map-append}
+use Rattle.std.proofs.lemmas.Option.{same_Some}
 use Rattle.gr_base.specs.Lists.{IsAmong, IsWithin, Each, NoneTwice, IsSublist, gathered}
-use Rattle.gr_base.proofs.ListLemmas.{Each-at, Each-members, Each-map, IsAmong-map, IsAmong-map_from, IsAmong-append, IsAmong-append_left, IsAmong-append_right, IsAmong-slice_get}
+use Rattle.gr_base.proofs.ListLemmas.{Each-at, Each-members, Each-map, IsAmong-map, IsAmong-map_from, IsAmong-append, IsAmong-append_left, IsAmong-append_right, IsAmong-slice_get, slice_get-mapped}
 use Rattle.gr_terms.specs.Networks.{Agrees}
 use Rattle.gr_terms.specs.Views.{network_of}
 use Rattle.td_desc.specs.declared.Colour.{Colour}
@@ -19,9 +20,6 @@ use Rattle.mg_facts.proofs.ReadingLemmas.{agrees-said}
 use Rattle.mg_facts.proofs.ClassLemmas.{one_root, root_one}
 use Rattle.mg_facts.proofs.MeaningLemmas.{standing_below, values_below, colours_below, standing-said, colour_to, colour_from, value_number, number_value, standing_number, number_standing}
 
-some_same : {A : Type 0} (x y : A) → Some x ≡ Some y → x ≡ y
-some_same x y e = cc
-
 none_is_not_some : {A : Type 0} (x : A) → None ≡ Some x → ⊥
 none_is_not_some x e = cc
 
@@ -32,11 +30,6 @@ pub sublist_within : {A : Type 0} (xs ys : List A) → IsSublist xs ys → IsWit
 sublist_within xs [] h x i = subst (λ z. IsAmong z x) h i
 sublist_within xs (y ∷ ys) (inl h) x i = inr (sublist_within xs ys h x i)
 sublist_within xs (y ∷ ys) (inr h) x i = elim (subst (λ z. IsAmong z x) h.1 i) [ inl e ↦ inl e | inr j ↦ inr (sublist_within h.0 ys h.2 x j) ]
-
-pub slice_get-map : {A B : Type 0} (f : A → B) (xs : List A) (i : ℕ) (x : A) → slice_get xs i ≡ Some x → slice_get (map f xs) i ≡ Some (f x)
-slice_get-map f [] i x at = absurd (none_is_not_some x at)
-slice_get-map f (y ∷ ys) zero x at = ap (λ z. Some (f z)) (some_same y x at)
-slice_get-map f (y ∷ ys) (suc i) x at = slice_get-map f ys i x at
 
 module _ (names : List Variable) (facts : List Fact) (once : NoneTwice names) (below : Each (IsBelow (length names)) facts)
     (roots : List ℕ) (are : AreRoots facts (length names) roots) where
@@ -81,7 +74,7 @@ module _ (names : List Variable) (facts : List Fact) (once : NoneTwice names) (b
       let l : AreIdentified all v (named names p.0) = subst (λ z. AreIdentified all v z) p.2 h.2 in
       let m : AreIdentified all v (named names q.0) = subst (λ z. AreIdentified all v z) q.2 k.2 in
       let e : root roots p.0 ≡ root roots q.0 = one_root names facts once below roots are p.0 q.0 (colour p.0 c p.1) (colour q.0 d q.1) (both_one v p.0 q.0 l m) in
-      some_same c d (sym (colours.all p.0 c p.1) ∙ ap (λ r. get_or table r None) e ∙ colours.all q.0 d q.1)
+      same_Some c d (sym (colours.all p.0 c p.1) ∙ ap (λ r. get_or table r None) e ∙ colours.all q.0 d q.1)
 
   pub no_clash : Agrees (network_of (all_asserted facts)) → (table : List (Option Colour)) → AreColours roots (gathered colours_in facts) table
       → (marks : List Bool) → AreMarked roots (gathered stand_in facts) marks → (HasMarked roots marks (gathered values_in facts) → ⊥) → Clashes all → ⊥
@@ -237,4 +230,4 @@ module _ (names : List Variable) (facts : List Fact) (once : NoneTwice names) (b
         place_of x i =
             let s = place_stands x i in
             let j : s.0 < length names = Each-at (λ x. x < length names) nodes s.0 nodes_below (IsAmong-slice_get nodes (get_or places (root roots x) 0) s.0 s.1) in
-            (named names s.0, slice_get-map (named names) nodes (get_or places (root roots x) 0) s.0 s.1, root_one names facts once below roots are x s.0 (stand x i) j (sym s.2))
+            (named names s.0, slice_get-mapped (named names) nodes (get_or places (root roots x) 0) s.0 s.1, root_one names facts once below roots are x s.0 (stand x i) j (sym s.2))

@@ -2,7 +2,8 @@
 use Rattle.std.specs.Prelude.{◌≡◌, ◌↔◌, ℕ, zero, suc, ◌+◌, ◌*◌, ◌<◌, ◌≤◌, List, [], ◌∷◌, ◌++◌, map, length, get_or, ◌⊎◌, refl}
 use Rattle.std.proofs.Common.{inl, inr, ap, ap₂, sym, ◌∙◌, subst, arith}
 use Rattle.gr_base.specs.Lists.{IsAmong, Each, NoneTwice, gathered}
-use Rattle.gr_base.proofs.ListLemmas.{Each-at, IsAmong-map, IsAmong-map_from}
+use Rattle.gr_base.proofs.ListLemmas.{Each-at, IsAmong-map, IsAmong-map_from, Each-weaker}
+use Rattle.gr_base.proofs.Gathering.{map-gathered, gathered-read}
 use Rattle.gr_terms.specs.declared.Assertion as code
 use Rattle.gr_terms.specs.declared.Assertion.TheVariants.{Entry, Equate, Link}
 use Rattle.gr_terms.specs.declared.Term.TheVariants.{Const, Var}
@@ -15,7 +16,7 @@ use Rattle.mg_facts.specs.Said.{Said, block, related, one_node, identified, is_n
 use Rattle.mg_facts.specs.Meanings.{IsSaidOne, AreIdentified, said_one, itself, backwards, onwards}
 use Rattle.mg_facts.specs.Numbered.{named, said_of, all_said, IsBelow, joined_by, all_joined}
 use Rattle.mg_facts.specs.Classes.{IsJoin, AreJoins, AreOne, IsRoot, AreRoots, root, InRange}
-use Rattle.mg_facts.proofs.GatheredLemmas.{gathered-read, gathered-same, map-gathered, Each-gathered, Each-weaken, IsAmong-gathered, IsAmong-gathered_from}
+use Rattle.mg_facts.proofs.GatheredLemmas.{gathered-same, Each-gathered, IsAmong-gathered, IsAmong-gathered_from}
 use Rattle.mg_facts.proofs.NumberLemmas.{number_of, number_of-named}
 
 -- JOINS AGREE
@@ -247,7 +248,7 @@ module _ (names : List Variable) (facts : List Fact) where
         let n = length names in
         let j : IsAmong (map named_pair (gathered ones_in facts)) (u, v) = subst (λ z. IsAmong z (u, v)) ones-said (said_one-to (all_said names facts) u v h) in
         let r = IsAmong-map_from named_pair (gathered ones_in facts) (u, v) j in
-        let within = Each-at (λ (p : ℕ × ℕ). (p.0 < n) × (p.1 < n)) (gathered ones_in facts) r.0 (Each-gathered ones_in (λ (p : ℕ × ℕ). (p.0 < n) × (p.1 < n)) facts (Each-weaken (IsBelow n) (λ f. Each (λ p. (p.0 < n) × (p.1 < n)) (ones_in f)) (ones_below n) facts below)) r.1 in
+        let within = Each-at (λ (p : ℕ × ℕ). (p.0 < n) × (p.1 < n)) (gathered ones_in facts) r.0 (Each-gathered ones_in (λ (p : ℕ × ℕ). (p.0 < n) × (p.1 < n)) facts (Each-weaker (IsBelow n) (λ f. Each (λ p. (p.0 < n) × (p.1 < n)) (ones_in f)) (ones_below n) facts below)) r.1 in
         let a : number u ≡ r.0.0 = ap number (ap (λ (q : Variable × Variable). q.0) r.2) ∙ number_of-named names once r.0.0 within.0 in
         let b : number v ≡ r.0.1 = ap number (ap (λ (q : Variable × Variable). q.1) r.2) ∙ number_of-named names once r.0.1 within.1 in
         let t : IsAmong (network_of (all_joined facts)) (tie r.0) = subst (λ z. IsAmong z (tie r.0)) (sym (all_joined-ones facts)) (IsAmong-map tie (gathered ones_in facts) r.0 r.1) in

@@ -5,7 +5,7 @@ use Rattle.std.proofs.Common.{inl, inr, ap, ap₂, sym, ◌∙◌, subst, arith}
 use Rattle.std.proofs.lemmas.List.{map-append, length-map}
 use Rattle.std.proofs.lemmas.Option.{slice_get_within}
 use Rattle.gr_base.specs.Lists.{IsAmong, Each, NoneTwice, gathered}
-use Rattle.gr_base.proofs.ListLemmas.{Each-at, Each-members, Each-map}
+use Rattle.gr_base.proofs.ListLemmas.{Each-at, Each-members, Each-map, Each-weaker}
 use Rattle.gr_terms.specs.declared.Term as code_term
 use Rattle.gr_terms.specs.declared.Term.TheVariants.{Const, Var}
 use Rattle.gr_terms.specs.declared.Assertion as code_assertion
@@ -32,7 +32,7 @@ use Rattle.mg_facts.specs.Said.{Slot, own_of, top_of, bottom_of, the_interface, 
 use Rattle.mg_facts.specs.Meanings.{network, literal_of, relation_of, IsRelation, IsNode, IsDescribed, IsSized, IsDescriptionOf}
 use Rattle.mg_facts.specs.Numbered.{named, named_term, named_slot, read_term, all_said, IsBelow, AreMet, all_asserted, stand_in, colours_in, relations_in, literals_in, slot_id, terms_in}
 use Rattle.mg_facts.specs.Classes.{AreRoots, root, AreColours, AreFirstOnes, shown, IsShownPart, InOrder, ArePlaces, node_at, relation_at}
-use Rattle.mg_facts.proofs.GatheredLemmas.{AllZip-maps, Each-weaken}
+use Rattle.mg_facts.proofs.GatheredLemmas.{AllZip-maps}
 use Rattle.mg_facts.proofs.NumberLemmas.{named_slot-own, named_slot-top, named_slot-bottom, number_of, number_of-named}
 use Rattle.mg_facts.proofs.ReadingLemmas.{all_asserted-mentions, forth, forth_slot, term-round, home, there}
 use Rattle.mg_facts.proofs.MeaningLemmas.{literals_below, relations_stand, spoken, spoken_literal, relations-said, literals-said, names_within, names_said}
@@ -110,11 +110,11 @@ module _ (names : List Variable) (facts : List Fact) (once : NoneTwice names) (b
   numbered : IsNumbered made
   numbered = record {
     order = in_search_order;
-    nodes = Each-map (node_at roots table) (AreSlotsBelow (3 * length names + 1)) nodes (Each-weaken (λ x. x < length names) (λ x. AreSlotsBelow (3 * length names + 1) (node_at roots table x)) slots_below nodes each_node);
+    nodes = Each-map (node_at roots table) (AreSlotsBelow (3 * length names + 1)) nodes (Each-weaker (λ x. x < length names) (λ x. AreSlotsBelow (3 * length names + 1) (node_at roots table x)) slots_below nodes each_node);
     relations = Each-map (relation_at roots places) (ArePlacesBelow (length made.nodes)) relations
         (Each-members (λ r. ArePlacesBelow (length made.nodes) (relation_at roots places r)) relations
         (λ r i. let s = relations_stand facts r i in (place_below r.0 s.0, place_below r.2 s.1)));
-    network = Each-weaken (store.Mentions (length names) (3 * length names + 1)) (Mentions (length names) (3 * length names + 1)) (mentions_made (length names) (3 * length names + 1)) (all_asserted facts)
+    network = Each-weaker (store.Mentions (length names) (3 * length names + 1)) (Mentions (length names) (3 * length names + 1)) (mentions_made (length names) (3 * length names + 1)) (all_asserted facts)
         (all_asserted-mentions (length names) (length names) (3 * length names + 1) (omega arith) (omega arith) facts below);
     interface = omega arith;
     literals = literals_below (length names) facts below;

@@ -3,8 +3,9 @@ use Rattle.std.specs.Prelude.{◌≡◌, ℕ, suc, ◌+◌, ◌*◌, ◌/◌, �
 use Rattle.std.proofs.Common.{inl, inr, ap, ap₂, sym, ◌∙◌, subst, arith}
 use Rattle.std.proofs.lemmas.List.{map_push, map_more, length-append}
 use Rattle.std.proofs.lemmas.Option.{get_or_from_slice_get, slice_get_within}
+use Rattle.std.proofs.lemmas.Bool.{cases_lt}
 use Rattle.gr_base.specs.Lists.{IsAmong, Each, gathered}
-use Rattle.gr_base.proofs.ListLemmas.{slice_get-append_left, IsAmong-append_left, IsAmong-append_right}
+use Rattle.gr_base.proofs.ListLemmas.{slice_get-append_left, IsAmong-append_left, IsAmong-append_right, Each-weaker}
 use Rattle.gr_terms.specs.declared.Sym.{Sym}
 use Rattle.gr_terms.specs.declared.SlotId.{SlotId}
 use Rattle.gr_terms.specs.declared.Term as code
@@ -18,8 +19,7 @@ use Rattle.mg_facts.specs.declared.variable.Value.{Value}
 use Rattle.mg_facts.specs.declared.fact.Fact.{Fact}
 use Rattle.mg_facts.specs.Said.{Said, Slot, own_of, top_of, bottom_of, related, one_node, identified, paired, says, term_of}
 use Rattle.mg_facts.specs.Numbered.{Numbered, Keeps, IsFresh, slot_variable, variable_in, anyone, named, named_term, named_slot, read_term, read_terms, said_of, all_said}
-use Rattle.mg_facts.proofs.GatheredLemmas.{Each-push, Each-weaken, gathered-push}
-use Rattle.mg_facts.proofs.StatedLemmas.{below_or_past}
+use Rattle.mg_facts.proofs.GatheredLemmas.{Each-push, gathered-push}
 use Rattle.mg_facts.proofs.NumberLemmas.{Keeps-trans, named_slot-own, named_slot-top, named_slot-bottom, slot-grow, term-grow, terms-grow, IsTermBelow-up}
 
 pub named_at : (names : List Variable) (n : ℕ) (x : Variable) → slice_get names n ≡ Some x → named names n ≡ x
@@ -67,7 +67,7 @@ module _ (old new : Numbered) (keeps : Keeps old new) where
   pub still_terms : (ts : List code.Term) (vs : List (Term Variable)) → Each (IsTermBelow (length old.names)) ts × (read_terms old.names ts ≡ vs)
       → Each (IsTermBelow (length new.names)) ts × (read_terms new.names ts ≡ vs)
   still_terms ts vs h = (
-    Each-weaken (IsTermBelow (length old.names)) (IsTermBelow (length new.names)) (IsTermBelow-up (length old.names) (length new.names) longer_names) ts h.0,
+    Each-weaker (IsTermBelow (length old.names)) (IsTermBelow (length new.names)) (IsTermBelow-up (length old.names) (length new.names) longer_names) ts h.0,
     ap (λ z. read_terms z ts) keeps.names ∙ terms-grow old.names keeps.more ts h.0 ∙ h.1,
   )
 
@@ -97,7 +97,7 @@ IsFresh-same old new xs keeps e i h k = let p : length new.names ≡ length old.
 
 pub IsFresh-then : (a b c : Numbered) (xs ys : List ℕ) → IsFresh a b xs → IsFresh b c ys → IsFresh a c (xs ++ ys)
 IsFresh-then a b c xs ys f g i h k =
-    elim (below_or_past i (length b.names)) [
+    elim (cases_lt i (length b.names)) [
       | inl l ↦ IsAmong-append_left xs ys i (f i h l)
       | inr l ↦ IsAmong-append_right xs ys i (g i l k)
     ]

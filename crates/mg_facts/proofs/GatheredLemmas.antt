@@ -3,9 +3,9 @@ use Rattle.std.specs.Prelude.{◌≡◌, ℕ, zero, suc, ◌+◌, ◌<◌, ◌�
 use Rattle.std.specs.List.{AllZip}
 use Rattle.std.proofs.Common.{inl, inr, ap, ap₂, sym, ◌∙◌, subst, append_assoc, arith}
 use Rattle.std.proofs.Math.Seq.{take-append_seam}
-use Rattle.std.proofs.lemmas.List.{append-nil, take_more, take-append-drop, map-append}
+use Rattle.std.proofs.lemmas.List.{append-nil, take_more, take-append-drop}
 use Rattle.std.proofs.lemmas.Option.{none-some, same_Some}
-use Rattle.gr_base.specs.Lists.{IsAmong, Each, IsWithin, IsSublist, NoneTwice, gathered}
+use Rattle.gr_base.specs.Lists.{IsAmong, Each, IsSublist, NoneTwice, gathered}
 use Rattle.gr_base.proofs.ListLemmas.{IsAmong-append, IsAmong-append_left, IsAmong-append_right, Each-append, Each-left}
 
 pub le_or : (n m : ℕ) → (n ≤ m) ⊎ (m ≤ n)
@@ -50,51 +50,17 @@ module _ {A B : Type 0} (f : A → List B) where
   gathered-same g e [] = refl
   gathered-same g e (x ∷ xs) = ap₂ (λ a b. a ++ b) (e x) (gathered-same g e xs)
 
-pub gathered-map : {A B C : Type 0} (h : A → B) (f : B → List C) (xs : List A) → gathered f (map h xs) ≡ gathered (λ x. f (h x)) xs
-gathered-map h f [] = refl
-gathered-map h f (x ∷ xs) = ap (λ z. f (h x) ++ z) (gathered-map h f xs)
-
-pub map-gathered : {A B C : Type 0} (h : B → C) (f : A → List B) (xs : List A) → map h (gathered f xs) ≡ gathered (λ x. map h (f x)) xs
-map-gathered h f [] = refl
-map-gathered h f (x ∷ xs) = map-append h (f x) (gathered f xs) ∙ ap (λ z. map h (f x) ++ z) (map-gathered h f xs)
-
--- what is gathered of the readings is read of what is gathered
-pub gathered-read : {A B C D : Type 0} (h : A → B) (f : B → List C) (g : A → List D) (r : D → C) → ((x : A) → f (h x) ≡ map r (g x)) → (xs : List A)
-    → gathered f (map h xs) ≡ map r (gathered g xs)
-gathered-read h f g r e xs = gathered-map h f xs ∙ gathered-same (λ x. f (h x)) (λ x. map r (g x)) e xs ∙ sym (map-gathered r g xs)
-
 pub Each-push : {A : Type 0} (P : A → Type 0) (xs : List A) (x : A) → Each P xs → P x → Each P (xs ++ x ∷ [])
 Each-push P xs x each here = Each-append P xs (x ∷ []) each (here, tt)
 
 pub Each-take : {A : Type 0} (P : A → Type 0) (xs : List A) (k : ℕ) → Each P xs → Each P (take k xs)
 Each-take P xs k each = Each-left P (take k xs) (drop k xs) (subst (Each P) (sym (take-append-drop k xs)) each)
 
-pub Each-weaken : {A : Type 0} (P Q : A → Type 0) → ((x : A) → P x → Q x) → (xs : List A) → Each P xs → Each Q xs
-Each-weaken P Q f [] h = tt
-Each-weaken P Q f (x ∷ xs) h = (f x h.0, Each-weaken P Q f xs h.1)
-
-pub Each-both : {A : Type 0} (P Q R : A → Type 0) → ((x : A) → P x → Q x → R x) → (xs : List A) → Each P xs → Each Q xs → Each R xs
-Each-both P Q R f [] h k = tt
-Each-both P Q R f (x ∷ xs) h k = (f x h.0 k.0, Each-both P Q R f xs h.1 k.1)
-
 pub take_take : {A : Type 0} (j k : ℕ) (xs : List A) → j ≤ k → take j (take k xs) ≡ take j xs
 take_take zero k xs h = refl
 take_take (suc j) zero xs h = absurd (omega arith)
 take_take (suc j) (suc k) [] h = refl
 take_take (suc j) (suc k) (x ∷ xs) h = ap (λ z. x ∷ z) (take_take j k xs (omega arith))
-
-pub IsWithin-take : {A : Type 0} (k : ℕ) (xs : List A) → IsWithin (take k xs) xs
-IsWithin-take k xs x i = subst (λ z. IsAmong z x) (take-append-drop k xs) (IsAmong-append_left (take k xs) (drop k xs) x i)
-
-some_same : {A : Type 0} (x y : A) → Some x ≡ Some y → x ≡ y
-some_same x y e = cc
-
--- what stands in a list with one more at the end
-pub slice_get-push_cases : {A : Type 0} (xs : List A) (y : A) (k : ℕ) (z : A) → slice_get (xs ++ y ∷ []) k ≡ Some z → (slice_get xs k ≡ Some z) ⊎ ((k ≡ length xs) × (z ≡ y))
-slice_get-push_cases [] y zero z at = inr (refl, sym (some_same y z at))
-slice_get-push_cases [] y (suc k) z at = absurd (none-some z at)
-slice_get-push_cases (x ∷ xs) y zero z at = inl at
-slice_get-push_cases (x ∷ xs) y (suc k) z at = elim (slice_get-push_cases xs y k z at) [ inl h ↦ inl h | inr h ↦ inr (ap (λ n. suc n) h.0, h.1) ]
 
 pub slice_get-take : {A : Type 0} (c : ℕ) (xs : List A) (k : ℕ) (z : A) → slice_get (take c xs) k ≡ Some z → (k < c) × (slice_get xs k ≡ Some z)
 slice_get-take zero xs k z at = absurd (none-some z at)

@@ -3,15 +3,16 @@ use Rattle.std.specs.Prelude.{◌≡◌, ◌≢◌, ◌↔◌, ℕ, zero, suc, �
 use Rattle.std.proofs.Common.{inl, inr, ap, ap₂, sym, ◌∙◌, subst, append_assoc, arith}
 use Rattle.std.proofs.Math.Seq.{take-length}
 use Rattle.std.proofs.lemmas.List.{append-nil, take_more, get_or-replicate, get_or_past, get_or-set_same, get_or-set_other, length-set, length-replicate, length_push}
-use Rattle.std.proofs.lemmas.Option.{slice_get-get_or}
+use Rattle.std.proofs.lemmas.Option.{slice_get-get_or, same_Some}
+use Rattle.std.proofs.lemmas.Bool.{cases_lt}
 use Rattle.gr_base.specs.Lists.{IsAmong, Each, IsSublist, gathered}
-use Rattle.gr_base.proofs.ListLemmas.{Each-at, IsAmong-append, IsAmong-append_left, IsAmong-append_right, IsAmong-one_more, IsAmong-new_one, IsAmong-get_or}
+use Rattle.gr_base.proofs.ListLemmas.{Each-at, IsAmong-append, IsAmong-append_left, IsAmong-append_right, IsAmong-one_more, IsAmong-new_one, IsAmong-get_or, Each-weaker, IsWithin-take}
 use Rattle.td_desc.specs.declared.Colour.{Colour}
 use Rattle.td_desc.specs.declared.Colour.TheVariants.{Black, White, Red}
 use Rattle.mg_facts.specs.declared.fact.Fact.{Fact}
 use Rattle.mg_facts.specs.Numbered.{IsBelow, colours_in}
 use Rattle.mg_facts.specs.Classes.{AreRoots, IsRoot, root, InRange, HasTwoColours, AreColours, IsPainted, IsOther, AreMarked, AreFirstOnes, HasMarked, shown, IsShownPart, StandsAt, ArePlaces}
-use Rattle.mg_facts.proofs.GatheredLemmas.{gathered-more, IsAmong-gathered, IsAmong-gathered_from, IsWithin-take, Each-push, Each-weaken, IsSublist-push, IsSublist-skip}
+use Rattle.mg_facts.proofs.GatheredLemmas.{gathered-more, IsAmong-gathered, IsAmong-gathered_from, Each-push, IsSublist-push, IsSublist-skip}
 use Rattle.mg_facts.proofs.MeaningLemmas.{colour_below}
 
 same_or_other : (i j : ℕ) → (i ≡ j) ⊎ (i ≢ j)
@@ -20,19 +21,11 @@ same_or_other zero (suc j) = inr (λ e. absurd (omega arith))
 same_or_other (suc i) zero = inr (λ e. absurd (omega arith))
 same_or_other (suc i) (suc j) = elim (same_or_other i j) [ inl e ↦ inl (ap (λ n. suc n) e) | inr d ↦ inr (λ e. d (omega arith)) ]
 
-below_or_past : (i n : ℕ) → (i < n) ⊎ (n ≤ i)
-below_or_past i zero = inr (omega arith)
-below_or_past zero (suc n) = inl (omega arith)
-below_or_past (suc i) (suc n) = elim (below_or_past i n) [ inl h ↦ inl (omega arith) | inr h ↦ inr (omega arith) ]
-
 pub replicated : {A : Type 0} (n r : ℕ) (a : A) → get_or (replicate n a) r a ≡ a
-replicated n r a = elim (below_or_past r n) [ inl h ↦ get_or-replicate n r a a h | inr h ↦ get_or_past (replicate n a) r a (subst (λ k. k ≤ r) (sym (length-replicate n a)) h) ]
+replicated n r a = elim (cases_lt r n) [ inl h ↦ get_or-replicate n r a a h | inr h ↦ get_or_past (replicate n a) r a (subst (λ k. k ≤ r) (sym (length-replicate n a)) h) ]
 
 none_is_not_some : {A : Type 0} (x : A) → None ≡ Some x → ⊥
 none_is_not_some x e = cc
-
-some_same : {A : Type 0} (x y : A) → Some x ≡ Some y → x ≡ y
-some_same x y e = cc
 
 false_is_not_true : false ≡ true → ⊥
 false_is_not_true e = cc
@@ -79,7 +72,7 @@ AreRoots-none facts = record { size = refl; each = λ x h. absurd (omega arith) 
 pub AreRoots-push : (facts : List Fact) (n : ℕ) (roots : List ℕ) (r : ℕ) → AreRoots facts n roots → IsRoot facts n r → AreRoots facts (n + 1) (roots ++ r ∷ [])
 AreRoots-push facts n roots r are is = record {
   size = length_push roots r ∙ ap (λ k. k + 1) are.size;
-  each = λ x h. elim (below_or_past x n) [
+  each = λ x h. elim (cases_lt x n) [
     | inl l ↦ subst (λ z. IsRoot facts x z) (sym (get_left roots r x (subst (λ k. x < k) (sym are.size) l))) (are.each x l)
     | inr l ↦
         let e : x ≡ n = omega arith in
@@ -116,7 +109,7 @@ module _ (roots : List ℕ) where
     all = λ y d i. elim (IsAmong-one_more painted (x, c) (y, d) i) [ inl j ↦ old y d j | inr e ↦ new y d e ];
     only = λ r d e. elim (same_or_other r (root roots x)) [
       | inl p ↦
-          let q : c ≡ d = some_same c d (sym (get_or-set_same table (root roots x) (Some c) None h) ∙ ap (λ k. get_or (set table (root roots x) (Some c)) k None) (sym p) ∙ e) in
+          let q : c ≡ d = same_Some c d (sym (get_or-set_same table (root roots x) (Some c) None h) ∙ ap (λ k. get_or (set table (root roots x) (Some c)) k None) (sym p) ∙ e) in
           (x, subst (λ z. IsAmong (painted ++ (x, c) ∷ []) (x, z)) q (IsAmong-new_one painted (x, c)), sym p)
       | inr p ↦
           let g = are.only r d (sym (get_or-set_other table (root roots x) r (Some c) None p) ∙ e) in
@@ -270,7 +263,7 @@ module _ (roots : List ℕ) where
   -- the colours of a fact are those of variables with a root
   pub painted_below : InRange roots → (facts : List Fact) → Each (IsBelow (length roots)) facts → (i : ℕ) (d : Fact) → i < length facts → Each (λ (p : ℕ × Colour). root roots p.0 < length roots) (colours_in (get_or facts i d))
   painted_below range facts below i d h =
-      Each-weaken (λ (p : ℕ × Colour). p.0 < length roots) (λ (p : ℕ × Colour). root roots p.0 < length roots) (λ p l. range p.0 l) (colours_in (get_or facts i d))
+      Each-weaker (λ (p : ℕ × Colour). p.0 < length roots) (λ (p : ℕ × Colour). root roots p.0 < length roots) (λ p l. range p.0 l) (colours_in (get_or facts i d))
       (colour_below (length roots) (get_or facts i d) (Each-at (IsBelow (length roots)) facts (get_or facts i d) below (IsAmong-get_or facts i d h)))
 
   -- PARTS OF A COLOUR

@@ -4,7 +4,8 @@ use Rattle.std.proofs.Common.{inl, inr, ap, ap₂, sym, ◌∙◌, subst, arith}
 use Rattle.std.proofs.lemmas.List.{map-append, append-nil}
 use Rattle.std.proofs.lemmas.Option.{get_or_from_slice_get, slice_get_within}
 use Rattle.gr_base.specs.Lists.{IsAmong, IsWithin, Each, gathered}
-use Rattle.gr_base.proofs.ListLemmas.{Each-at, IsAmong-map, IsAmong-map_from, IsAmong-append, IsAmong-append_left, IsAmong-append_right, slice_get-IsAmong}
+use Rattle.gr_base.proofs.ListLemmas.{Each-at, IsAmong-map, IsAmong-map_from, IsAmong-append, IsAmong-append_left, IsAmong-append_right, slice_get-IsAmong, Each-weaker}
+use Rattle.gr_base.proofs.Gathering.{gathered-read}
 use Rattle.gr_terms.specs.declared.Term as code_term
 use Rattle.gr_terms.specs.declared.Term.TheVariants.{Const, Var}
 use Rattle.gr_terms.specs.declared.Literal as code_literal
@@ -21,7 +22,7 @@ use Rattle.mg_facts.specs.declared.fact.Fact.TheVariants as fact
 use Rattle.mg_facts.specs.Said.{Said, block, related, one_node, identified, is_name, coloured, paired, says}
 use Rattle.mg_facts.specs.Meanings.{stands, standing, IsValueIn, relation_of, literal_of, term_names, names_in, slot_variables, term_variables, variables_said, names_of, assertion_names, literal_names}
 use Rattle.mg_facts.specs.Numbered.{anyone, named, named_term, named_slot, slot_number, slot_variable, variables_in, AreMet, read_term, said_of, all_said, IsBelow, asserted, all_asserted, stand_in, variable_in, terms_in, values_in, colours_in, relations_in, literals_in}
-use Rattle.mg_facts.proofs.GatheredLemmas.{gathered-read, Each-gathered, Each-weaken, IsAmong-gathered, IsAmong-gathered_from}
+use Rattle.mg_facts.proofs.GatheredLemmas.{Each-gathered, IsAmong-gathered, IsAmong-gathered_from}
 
 -- BOUNDS
 
@@ -96,16 +97,16 @@ relations_stand facts r i =
 
 module _ (n : ℕ) (facts : List Fact) (below : Each (IsBelow n) facts) where
   pub standing_below : Each (λ x. x < n) (gathered stand_in facts)
-  standing_below = Each-gathered stand_in (λ x. x < n) facts (Each-weaken (IsBelow n) (λ f. Each (λ x. x < n) (stand_in f)) (stand_below n) facts below)
+  standing_below = Each-gathered stand_in (λ x. x < n) facts (Each-weaker (IsBelow n) (λ f. Each (λ x. x < n) (stand_in f)) (stand_below n) facts below)
 
   pub values_below : Each (λ x. x < n) (gathered values_in facts)
-  values_below = Each-gathered values_in (λ x. x < n) facts (Each-weaken (IsBelow n) (λ f. Each (λ x. x < n) (values_in f)) (value_below n) facts below)
+  values_below = Each-gathered values_in (λ x. x < n) facts (Each-weaker (IsBelow n) (λ f. Each (λ x. x < n) (values_in f)) (value_below n) facts below)
 
   pub colours_below : Each (λ (p : ℕ × Colour). p.0 < n) (gathered colours_in facts)
-  colours_below = Each-gathered colours_in (λ (p : ℕ × Colour). p.0 < n) facts (Each-weaken (IsBelow n) (λ f. Each (λ (p : ℕ × Colour). p.0 < n) (colours_in f)) (colour_below n) facts below)
+  colours_below = Each-gathered colours_in (λ (p : ℕ × Colour). p.0 < n) facts (Each-weaker (IsBelow n) (λ f. Each (λ (p : ℕ × Colour). p.0 < n) (colours_in f)) (colour_below n) facts below)
 
   pub literals_below : Each (SaysOf n) (gathered literals_in facts)
-  literals_below = Each-gathered literals_in (SaysOf n) facts (Each-weaken (IsBelow n) (λ f. Each (SaysOf n) (literals_in f)) (literal_below n) facts below)
+  literals_below = Each-gathered literals_in (SaysOf n) facts (Each-weaker (IsBelow n) (λ f. Each (SaysOf n) (literals_in f)) (literal_below n) facts below)
 
 -- WHAT IS SAID
 

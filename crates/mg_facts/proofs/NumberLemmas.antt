@@ -3,10 +3,10 @@ use Rattle.std.specs.Prelude.{◌≡◌, ℕ, zero, suc, ◌+◌, ◌*◌, ◌/�
 use Rattle.std.specs.Bool.{Decides}
 use Rattle.std.proofs.Common.{inl, inr, ap, ap₂, sym, ◌∙◌, subst, append_assoc, arith, eq-eqb}
 use Rattle.std.proofs.Math.ListN.{get_or-append}
-use Rattle.std.proofs.lemmas.Bool.{eqb-true, false≢true}
+use Rattle.std.proofs.lemmas.Bool.{eqb-true, false≢true, and_from, and_parts}
 use Rattle.std.proofs.lemmas.List.{append-nil}
 use Rattle.gr_base.specs.Lists.{IsAmong, Each, NoneTwice}
-use Rattle.gr_base.proofs.ListLemmas.{IsAmong-get_or}
+use Rattle.gr_base.proofs.ListLemmas.{IsAmong-get_or, Each-weaker}
 use Rattle.gr_terms.specs.declared.Term.{Term}
 use Rattle.gr_terms.specs.declared.Term.TheVariants.{Const, Var}
 use Rattle.gr_terms.specs.declared.Literal.{Literal}
@@ -23,7 +23,7 @@ use Rattle.mg_facts.specs.declared.fact.Fact.{Fact}
 use Rattle.mg_facts.specs.declared.fact.Fact.TheVariants as fact
 use Rattle.mg_facts.specs.Said.{Said, block, related, one_node, identified, is_name, coloured, paired, says, own_of, top_of, bottom_of, Slot}
 use Rattle.mg_facts.specs.Numbered.{Numbered, Keeps, GoesOn, anyone, slot_number, named, named_term, named_slot, read_term, said_of, all_said, IsBelow}
-use Rattle.mg_facts.proofs.GatheredLemmas.{le_or, Each-weaken}
+use Rattle.mg_facts.proofs.GatheredLemmas.{le_or}
 
 -- NUMBERS OF SLOTS
 
@@ -128,7 +128,7 @@ IsBelow-up n m up (fact.Identified x y) h = (omega arith, omega arith)
 IsBelow-up n m up (fact.IsName x a) h = omega arith
 IsBelow-up n m up (fact.Coloured x c) h = omega arith
 IsBelow-up n m up (fact.Paired s a t) h = (omega arith, IsTermBelow-up n m up t h.1)
-IsBelow-up n m up (fact.Says l) h = (IsTermBelow-up n m up l.handle h.0, IsTermBelow-up n m up l.pred h.1, Each-weaken (IsTermBelow n) (IsTermBelow m) (IsTermBelow-up n m up) l.args h.2)
+IsBelow-up n m up (fact.Says l) h = (IsTermBelow-up n m up l.handle h.0, IsTermBelow-up n m up l.pred h.1, Each-weaker (IsTermBelow n) (IsTermBelow m) (IsTermBelow-up n m up) l.args h.2)
 
 -- below both numbers, below the less
 pub IsBelow-min : (n m k : ℕ) → k ≡ min n m → (f : Fact) → IsBelow n f → IsBelow m f → IsBelow k f
@@ -159,28 +159,20 @@ abbrev pub number_of : List Variable → Variable → ℕ
 number_of [] x = 0
 number_of (y ∷ ys) x = if variable_eq x y then 0 else suc (number_of ys x)
 
-both_true : (b c : Bool) → (b && c) ≡ true → (b ≡ true) × (c ≡ true)
-both_true true c h = (refl, h)
-both_true false c h = absurd (false≢true h)
-
-true_both : (b c : Bool) → b ≡ true → c ≡ true → (b && c) ≡ true
-true_both true c h k = k
-true_both false c h k = h
-
 local_eq-same : (a : Local) → local_eq a a ≡ true
 local_eq-same (Name a) = eq-eqb a a refl
-local_eq-same (Dotted a b) = true_both (nat_eq a a) (nat_eq b b) (eq-eqb a a refl) (eq-eqb b b refl)
+local_eq-same (Dotted a b) = and_from (nat_eq a a) (nat_eq b b) (eq-eqb a a refl) (eq-eqb b b refl)
 local_eq-same Own = refl
 
 pub variable_eq-same : (x : Variable) → variable_eq x x ≡ true
-variable_eq-same x = true_both (nat_eq x.at x.at) (local_eq x.local x.local) (eq-eqb x.at x.at refl) (local_eq-same x.local)
+variable_eq-same x = and_from (nat_eq x.at x.at) (local_eq x.local x.local) (eq-eqb x.at x.at refl) (local_eq-same x.local)
 
 local_eq-true : (a b : Local) → local_eq a b ≡ true → a ≡ b
 local_eq-true (Name a) (Name b) h = ap Name (eqb-true a b h)
 local_eq-true (Name a) (Dotted c d) h = absurd (false≢true h)
 local_eq-true (Name a) Own h = absurd (false≢true h)
 local_eq-true (Dotted a b) (Name c) h = absurd (false≢true h)
-local_eq-true (Dotted a b) (Dotted c d) h = let r = both_true (nat_eq a c) (nat_eq b d) h in ap₂ Dotted (eqb-true a c r.0) (eqb-true b d r.1)
+local_eq-true (Dotted a b) (Dotted c d) h = let r = and_parts (nat_eq a c) (nat_eq b d) h in ap₂ Dotted (eqb-true a c r.0) (eqb-true b d r.1)
 local_eq-true (Dotted a b) Own h = absurd (false≢true h)
 local_eq-true Own (Name a) h = absurd (false≢true h)
 local_eq-true Own (Dotted a b) h = absurd (false≢true h)
@@ -188,7 +180,7 @@ local_eq-true Own Own h = refl
 
 pub variable_eq-true : (x y : Variable) → variable_eq x y ≡ true → x ≡ y
 variable_eq-true x y h =
-    let r = both_true (nat_eq x.at y.at) (local_eq x.local y.local) h in
+    let r = and_parts (nat_eq x.at y.at) (local_eq x.local y.local) h in
     ap₂ (λ a l. record { at = a; local = l }) (eqb-true x.at y.at r.0) (local_eq-true x.local y.local r.1)
 
 variable_eq-false : (x y : Variable) → (x ≡ y → ⊥) → variable_eq x y ≡ false

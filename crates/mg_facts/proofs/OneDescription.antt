@@ -3,7 +3,8 @@ use Rattle.std.specs.Prelude.{◌≡◌, ℕ, List, [], ◌∷◌, ◌++◌, Som
 use Rattle.std.specs.List.{AllZip}
 use Rattle.std.proofs.Common.{inl, inr, ap, ap₂, sym, ◌∙◌, subst}
 use Rattle.gr_base.specs.Lists.{IsAmong, IsWithin, NoneTwice, IsSublist, gathered}
-use Rattle.gr_base.proofs.ListLemmas.{IsAmong-append, Each-at, IsAmong-slice_get, one_place}
+use Rattle.gr_base.proofs.ListLemmas.{IsAmong-append, Each-at, IsAmong-slice_get, one_place, NoneTwice-append}
+use Rattle.gr_base.proofs.Zips.{AllZip-one}
 use Rattle.gr_terms.specs.Networks.{Term, Assertion}
 use Rattle.gr_terms.specs.Canonical.{Literal, Node}
 use Rattle.td_desc.specs.declared.Colour.{Colour}
@@ -17,15 +18,6 @@ use Rattle.mg_facts.specs.Meanings.{AreIdentified, itself, backwards, onwards, s
 use Rattle.mg_facts.proofs.ClashLemmas.{sublist_within}
 
 -- ---- lists
-
--- a list has at most one list of items beside it, where each element has at most one
-AllZip-one : {A B : Type 0} (R : A → B → Type 0) → ((x : A) (y z : B) → R x y → R x z → y ≡ z) → (xs : List A) (ys zs : List B) → AllZip R xs ys → AllZip R xs zs → ys ≡ zs
-AllZip-one R one [] [] [] h k = refl
-AllZip-one R one [] [] (z ∷ zs) h k = absurd k
-AllZip-one R one [] (y ∷ ys) zs h k = absurd h
-AllZip-one R one (x ∷ xs) [] zs h k = absurd h
-AllZip-one R one (x ∷ xs) (y ∷ ys) [] h k = absurd k
-AllZip-one R one (x ∷ xs) (y ∷ ys) (z ∷ zs) h k = ap₂ (λ p ps. p ∷ ps) (one x y z h.0 k.0) (AllZip-one R one xs ys zs h.1 k.1)
 
 -- a sublist of a list without repetition has none
 IsSublist-once : {A : Type 0} (xs ys : List A) → IsSublist xs ys → NoneTwice ys → NoneTwice xs
@@ -50,14 +42,6 @@ IsSublist-same xs ys (z ∷ zs) once (inr s) (inr t) f g =
     let forth = rest_within z xs ys s.0 t.0 s.1 t.1 (λ i. once.0 (sublist_within s.0 zs s.2 z i)) f in
     let back = rest_within z ys xs t.0 s.0 t.1 s.1 (λ i. once.0 (sublist_within t.0 zs t.2 z i)) g in
     s.1 ∙ (ap (λ l. z ∷ l) (IsSublist-same s.0 t.0 zs once.1 s.2 t.2 forth back) ∙ sym t.1)
-
--- lists without repetition and without a common member
-NoneTwice-append : {A : Type 0} (xs ys : List A) → NoneTwice xs → NoneTwice ys → ((x : A) → IsAmong xs x → IsAmong ys x → ⊥) → NoneTwice (xs ++ ys)
-NoneTwice-append [] ys once again apart = again
-NoneTwice-append (x ∷ xs) ys once again apart = (
-  (λ i. elim (IsAmong-append xs ys x i) [ inl j ↦ once.0 j | inr j ↦ apart x (inl refl) j ]),
-  NoneTwice-append xs ys once.1 again (λ y i j. apart y (inr i) j),
-)
 
 -- ---- records with equal fields
 

@@ -2,7 +2,8 @@
 use Rattle.std.specs.Prelude.{◌≡◌, ◌↔◌, ℕ, zero, suc, ◌+◌, ◌*◌, ◌/◌, ◌%◌, ◌<◌, ◌≤◌, List, [], ◌∷◌, ◌++◌, map, length, refl}
 use Rattle.std.proofs.Common.{inl, inr, ap, ap₂, sym, ◌∙◌, subst, arith}
 use Rattle.gr_base.specs.Lists.{IsAmong, Each, NoneTwice, gathered}
-use Rattle.gr_base.proofs.ListLemmas.{Each-at, IsAmong-map_from}
+use Rattle.gr_base.proofs.ListLemmas.{Each-at, IsAmong-map_from, Each-weaker}
+use Rattle.gr_base.proofs.Gathering.{map-gathered, gathered-read}
 use Rattle.gr_terms.specs.declared.Term.{Term}
 use Rattle.gr_terms.specs.declared.Term.TheVariants.{Const, Var}
 use Rattle.gr_terms.specs.declared.Assertion as code
@@ -20,7 +21,7 @@ use Rattle.mg_facts.specs.Said.{Slot, own_of, top_of, bottom_of, the_interface}
 use Rattle.mg_facts.specs.Meanings.{one_assertions, assertions, network}
 use Rattle.mg_facts.specs.Numbered.{named, named_term, named_slot, slot_number, said_of, all_said, IsBelow, one_of, asserted, all_asserted, joined_by, all_joined}
 use Rattle.td_desc.specs.Conditions.{IsTermBelow}
-use Rattle.mg_facts.proofs.GatheredLemmas.{gathered-read, map-gathered, Each-gathered, Each-weaken}
+use Rattle.mg_facts.proofs.GatheredLemmas.{Each-gathered}
 use Rattle.mg_facts.proofs.NumberLemmas.{named_slot-own, named_slot-top, named_slot-bottom, number_of, number_of-named}
 
 -- WHAT A FACT MENTIONS
@@ -44,7 +45,7 @@ asserted-mentions n vars slots v s (fact.Says l) h = tt
 
 pub all_asserted-mentions : (n vars slots : ℕ) → n ≤ vars → 3 * n + 1 ≤ slots → (facts : List Fact) → Each (IsBelow n) facts → store.MentionsAll vars slots (all_asserted facts)
 all_asserted-mentions n vars slots v s facts below =
-    Each-gathered asserted (store.Mentions vars slots) facts (Each-weaken (IsBelow n) (λ f. store.MentionsAll vars slots (asserted f)) (asserted-mentions n vars slots v s) facts below)
+    Each-gathered asserted (store.Mentions vars slots) facts (Each-weaker (IsBelow n) (λ f. store.MentionsAll vars slots (asserted f)) (asserted-mentions n vars slots v s) facts below)
 
 pub joined_by-mentions : (n vars slots : ℕ) → n ≤ vars → (f : Fact) → IsBelow n f → store.MentionsAll vars slots (joined_by f)
 joined_by-mentions n vars slots v (fact.Block x) h = tt
@@ -58,7 +59,7 @@ joined_by-mentions n vars slots v (fact.Says l) h = tt
 
 pub all_joined-mentions : (n vars slots : ℕ) → n ≤ vars → (facts : List Fact) → Each (IsBelow n) facts → store.MentionsAll vars slots (all_joined facts)
 all_joined-mentions n vars slots v facts below =
-    Each-gathered joined_by (store.Mentions vars slots) facts (Each-weaken (IsBelow n) (λ f. store.MentionsAll vars slots (joined_by f)) (joined_by-mentions n vars slots v) facts below)
+    Each-gathered joined_by (store.Mentions vars slots) facts (Each-weaker (IsBelow n) (λ f. store.MentionsAll vars slots (joined_by f)) (joined_by-mentions n vars slots v) facts below)
 
 -- THE NETWORK IS READ
 

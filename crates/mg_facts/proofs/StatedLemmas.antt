@@ -5,11 +5,11 @@ use Rattle.std.specs.Bool.{OnTrue, OnFalse}
 use Rattle.std.proofs.Common.{inl, inr, ap, ap₂, sym, ◌∙◌, subst, append_assoc, arith}
 use Rattle.std.proofs.Math.Nat.{min-le_left, min-le_right}
 use Rattle.std.proofs.Math.Seq.{take-length, take-append_seam}
-use Rattle.std.proofs.lemmas.Bool.{false≢true}
+use Rattle.std.proofs.lemmas.Bool.{false≢true, cases_lt}
 use Rattle.std.proofs.lemmas.List.{length-take, length-take-le, length_push, take_more, take-append-le, take-append-drop}
 use Rattle.std.proofs.lemmas.Option.{slice_get_within}
 use Rattle.gr_base.specs.Lists.{IsAmong, IsWithin, Each, NoneTwice, gathered}
-use Rattle.gr_base.proofs.ListLemmas.{NoneTwice-push, list_any-IsAmong, one_place, slice_get_push, IsAmong-append, IsAmong-append_left, IsAmong-append_right, Each-append, IsAmong-map, IsAmong-map_from}
+use Rattle.gr_base.proofs.ListLemmas.{NoneTwice-push, list_any-IsAmong, one_place, slice_get_push, IsAmong-append, IsAmong-append_left, IsAmong-append_right, Each-append, IsAmong-map, IsAmong-map_from, slice_get-push_cases, Each-weaker, Each-both, IsWithin-take}
 use Rattle.gr_terms.specs.declared.Assertion.{Assertion}
 use Rattle.gr_terms.specs.declared.Assertion.TheVariants.{Entry, Equate, Link}
 use Rattle.gr_terms.specs.declared.Term.{Term}
@@ -28,15 +28,10 @@ use Rattle.mg_facts.specs.Ledgers.{Kept, IsMarked, kept_part}
 use Rattle.mg_facts.specs.Numbered.{Numbered, Keeps, IsFresh, AreMet, GoesOn, IsBelow, variables_in, asserted, all_asserted, joined_by, all_joined, all_said, said_of, one_of, slot_id}
 use Rattle.mg_facts.specs.State.{IsLess, IsPast, HasMoreRoom, IsStated}
 use Rattle.mg_facts.specs.Classes.{IsJoin, AreJoins, AreOne, IsRoot}
-use Rattle.mg_facts.proofs.GatheredLemmas.{gathered-push, take-gathered, take_take, Each-push, Each-take, Each-both, Each-weaken, IsWithin-take, IsAmong-gathered, IsAmong-gathered_from, slice_get-push_cases, slice_get-take}
+use Rattle.mg_facts.proofs.GatheredLemmas.{gathered-push, take-gathered, take_take, Each-push, Each-take, IsAmong-gathered, IsAmong-gathered_from, slice_get-take}
 use Rattle.mg_facts.proofs.NumberLemmas.{IsBelow-up, IsBelow-min, all_said-grow, Keeps-same, Keeps-goes_on}
 use Rattle.mg_facts.proofs.ReadingLemmas.{asserted-mentions, all_asserted-mentions, joined_by-mentions, all_joined-mentions}
 use Rattle.mg_facts.proofs.ClassLemmas.{joins-agree, no_name, all_joined-joins}
-
-pub below_or_past : (i n : ℕ) → (i < n) ⊎ (n ≤ i)
-below_or_past i zero = inr (omega arith)
-below_or_past zero (suc n) = inl (omega arith)
-below_or_past (suc i) (suc n) = elim (below_or_past i n) [ inl h ↦ inl (omega arith) | inr h ↦ inr (omega arith) ]
 
 -- NAMES
 
@@ -197,12 +192,12 @@ module _ (names : List Variable) (used : ℕ) (facts : List Fact) (past : List P
     longer = length_push facts f
 
     below_more : Each (IsBelow (length names)) (facts ++ f ∷ [])
-    below_more = Each-push (IsBelow (length names)) facts f (Each-weaken (IsBelow used) (IsBelow (length names)) (IsBelow-up used (length names) inv.named) facts inv.below) h
+    below_more = Each-push (IsBelow (length names)) facts f (Each-weaker (IsBelow used) (IsBelow (length names)) (IsBelow-up used (length names) inv.named) facts inv.below) h
 
     met_more : AreMet (length names) (facts ++ f ∷ [])
     met_more i l =
         subst (λ z. IsAmong z i) (sym (gathered-push variables_in facts f))
-        (elim (below_or_past i used) [
+        (elim (cases_lt i used) [
           | inl a ↦ IsAmong-append_left (gathered variables_in facts) (variables_in f) i (inv.met i a)
           | inr a ↦ IsAmong-append_right (gathered variables_in facts) (variables_in f) i (fresh i a l)
         ])
@@ -341,7 +336,7 @@ module _ (names : List Variable) (used : ℕ) (facts : List Fact) (past : List P
     below_first : Each (IsBelow n) (take count facts)
     below_first =
         Each-both (IsBelow p.names) (IsBelow (length names)) (IsBelow n) (IsBelow-min p.names (length names) n (is_n ∙ length-take p.names names)) (take count facts) h.below
-        (Each-take (IsBelow (length names)) facts count (Each-weaken (IsBelow used) (IsBelow (length names)) (IsBelow-up used (length names) inv.named) facts inv.below))
+        (Each-take (IsBelow (length names)) facts count (Each-weaker (IsBelow used) (IsBelow (length names)) (IsBelow-up used (length names) inv.named) facts inv.below))
 
     met_first : AreMet n (take count facts)
     met_first i l =
@@ -481,7 +476,7 @@ pub Keeps-numbered : (names : List Variable) (facts : List Fact) (used : ℕ) (s
     → used ≤ length names → Each (IsBelow used) facts → GoesOn names new x → Keeps s (record { names = new; facts = facts; used = used })
 Keeps-numbered names facts used s new x e within below goes =
     subst (λ z. Keeps z (record { names = new; facts = facts; used = used })) e
-    (Keeps-goes_on names facts used new x (Each-weaken (IsBelow used) (IsBelow (length names)) (IsBelow-up used (length names) within) facts below) goes)
+    (Keeps-goes_on names facts used new x (Each-weaker (IsBelow used) (IsBelow (length names)) (IsBelow-up used (length names) within) facts below) goes)
 
 -- a new number is that of the variable
 pub number_is_fresh : (s : Numbered) (names new : List Variable) (facts : List Fact) (used : ℕ) (x : Variable) (n : ℕ) → record { names = names; facts = facts; used = used } ≡ s

@@ -1,14 +1,12 @@
 -- Classes that were compiled or read: they can be written, have different names, and no variable as a mark.
-use Rattle.std.specs.Prelude.{◌≡◌, ℕ, ◌<◌, List, [], ◌∷◌, map, length, Bool, true, false, not, cond, ◌==◌, if◌then◌else◌, Some, refl}
+use Rattle.std.specs.Prelude.{◌≡◌, ℕ, ◌<◌, List, [], ◌∷◌, map, length, Bool, true, false, not, cond, ◌==◌, refl}
 use Rattle.std.specs.List.{filter}
 use Rattle.std.proofs.Common.{inl, inr, ap, sym, ◌∙◌, subst}
 use Rattle.std.proofs.lemmas.Bool.{false≢true}
-use Rattle.std.proofs.lemmas.Option.{none-some, same_Some}
 use Rattle.std.proofs.lemmas.Bool.Decides.{Decides-eqb}
 use Rattle.gr_base.specs.Lists.{IsAmong, NoneTwice, Each, gathered}
-use Rattle.gr_base.proofs.ListLemmas.{Each-at, Each-map, Each-members}
+use Rattle.gr_base.proofs.ListLemmas.{Each-at, Each-map, Each-members, Each-weaker}
 use Rattle.gr_symbols.specs.Numbers.{Grows}
-use Rattle.gr_terms.specs.BagViews.{pairs_of}
 use Rattle.gr_terms.specs.Constants.{MARK}
 use Rattle.gr_terms.specs.Networks as net
 use Rattle.gr_terms.specs.Networks.{variable}
@@ -21,18 +19,17 @@ use Rattle.mg_reader.specs.Answers.{IsMetagrammar}
 use Rattle.mg_scope.specs.Classes.{firsts, valuation}
 use Rattle.mg_scope.proofs.ClassLemmas.{class_of-stands}
 use Rattle.mg_expand.specs.Items.{expansion_said}
-use Rattle.mg_syntax.proofs.Names.{Each-by}
 use Rattle.td_canon.specs.TreeSets.{Entry, trees_of}
 use Rattle.td_canon.specs.CanonicalTexts.{text_in, HasText}
 use Rattle.td_canon.specs.declared.tree_set.ClassTrees.{ClassTrees}
-use Rattle.td_tree.specs.Trees.{BagPairs}
 use Rattle.td_tree.specs.declared.TreeNode.{TreeNode}
-use Rattle.tg_grammar.specs.Marks.{lists_at, value_of}
+use Rattle.tg_grammar.specs.Marks.{lists_at}
 use Rattle.tg_reader.specs.Writable.{IsMark, IsTable, IsWord, IsWritableNode, IsWritableOwn, IsWritableTree}
 use Rattle.tg_text.specs.Answers.{IsReadClass}
 use Rattle.mg_compile.specs.Compiled.{IsCompiledTree}
 use Rattle.mg_lists.specs.CompiledClasses.{AreCompiled, IsCompiledClass}
 use Rattle.tg_grammar.specs.NamedMarks.{IsNamedMark, HasNamedMarks, HaveNamedMarks}
+use Rattle.tg_grammar.proofs.MarkLemmas.{value_there}
 use Rattle.mg_lists.proofs.Spelled.{IsFineClass, IsKnownItem}
 use Rattle.mg_lists.proofs.Walks.{all_items, class_known, expansion_fine}
 use Rattle.mg_lists.proofs.ModelForms.{model_form_fine}
@@ -94,18 +91,6 @@ compiled_is_read bytes texts later m t table grows g compiled = compiled_class_r
 
 -- ---- marks
 
--- the value of an attribute stands in the bag
-value_there : (bag : BagPairs) (a : ℕ) (z : net.Term ℕ) → value_of (pairs_of bag) a ≡ Some z → (y : Term) × IsAmong bag (record { 0 = a }, y) × (z ≡ term_of y)
-value_there [] a z e = absurd (none-some z e)
-value_there (p ∷ bag) a z e = by (p.0.0 == a) refl e (value_there bag a z)
-  where
-    by : (b : Bool) → (p.0.0 == a) ≡ b → (if b then Some (term_of p.1) else value_of (pairs_of bag) a) ≡ Some z
-        → (value_of (pairs_of bag) a ≡ Some z → (y : Term) × IsAmong bag (record { 0 = a }, y) × (z ≡ term_of y)) → (y : Term) × IsAmong (p ∷ bag) (record { 0 = a }, y) × (z ≡ term_of y)
-    by true t first later =
-        let attr : a ≡ p.0.0 = sym ((Decides-eqb p.0.0 a).0 t) in
-        (p.1, inl (λ i. (record { 0 = attr i }, p.1)), sym (same_Some (term_of p.1) z first))
-    by false t rest later = let r = later rest in (r.0, inr r.1, r.2)
-
 named_mark : (texts : List (List ℕ)) (n : TreeNode) → IsWritableNode texts n → IsNamedMark (lists_at n)
 named_mark texts n h v e =
     let r = value_there n.own MARK (variable v) e in
@@ -128,7 +113,7 @@ read_marks texts (c ∷ classes) h = (
 -- ---- and are read back
 
 pub all_read : (bytes : List ℕ) (texts later : List (List ℕ)) (m : List Item) (classes : List ClassTrees) → IsTable later → Grows texts later → IsMetagrammar bytes texts m → Each (IsCompiledClass later m) classes → Each (IsReadClass later) classes
-all_read bytes texts later m classes table grows g each = Each-by (IsCompiledClass later m) (IsReadClass later) (λ t. compiled_is_read bytes texts later m t table grows g) classes each
+all_read bytes texts later m classes table grows g each = Each-weaker (IsCompiledClass later m) (IsReadClass later) (λ t. compiled_is_read bytes texts later m t table grows g) classes each
 
 pub compiled_once : (texts : List (List ℕ)) (m : List Item) (classes : List ClassTrees) → AreCompiled texts m classes → NoneTwice (map (λ (c : ClassTrees). c.class) classes)
 compiled_once texts m classes compiled = subst NoneTwice (sym compiled.valued) (firsts_once (gathered valuation m))

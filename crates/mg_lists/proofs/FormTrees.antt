@@ -1,11 +1,13 @@
 -- A tree whose canonical form can be written can be written itself.
-use Rattle.std.specs.Prelude.{◌≡◌, ℕ, zero, suc, ◌+◌, List, [], ◌∷◌, map, Some, None, slice_get, Option, refl}
+use Rattle.std.specs.Prelude.{◌≡◌, ℕ, suc, ◌+◌, List, [], ◌∷◌, map, Some, None, slice_get, Option, refl}
 use Rattle.std.proofs.Common.{inl, inr, ap, sym, ◌∙◌, subst, arith}
-use Rattle.std.proofs.lemmas.Option.{none-some, same_Some}
+use Rattle.std.proofs.lemmas.Option.{same_Some}
 use Rattle.gr_base.specs.Lists.{IsAmong, IsRising, Each, gathered}
 use Rattle.gr_base.specs.Forests.{Forest, empty, tree, labels, numbered as with_numbers, size}
-use Rattle.gr_base.proofs.ListLemmas.{Each-at, Each-append, Each-left, Each-right, Each-members, IsAmong-append_left, IsAmong-append_right, IsAmong-gathered, IsAmong-map, IsAmong-slice_get, slice_get-IsAmong}
+use Rattle.gr_base.proofs.ListLemmas.{Each-at, Each-append, Each-left, Each-right, Each-members, IsAmong-append_left, IsAmong-append_right, IsAmong-gathered, IsAmong-map, IsAmong-slice_get, slice_get-IsAmong, slice_get-mapped}
 use Rattle.gr_base.proofs.RisingKeys.{IsRising-same}
+use Rattle.gr_base.proofs.ForestLemmas.{labels-map}
+use Rattle.gr_base.proofs.Zips.{labels-alike}
 use Rattle.gr_terms.specs.BagViews.{pairs_of}
 use Rattle.gr_terms.specs.Bags.{IsListed}
 use Rattle.gr_terms.specs.Canonical.{Decorated, Label, Node, Pairs as LabelPairs, named, numbered, node_slots, tree_slots, literal_terms, map_literal, IsMet, IsCanonicalForm, ListsSlot, ListsNode}
@@ -18,15 +20,15 @@ use Rattle.gr_terms.specs.declared.Term as code
 use Rattle.gr_terms.specs.declared.Term.TheVariants.{Const, Var}
 use Rattle.gr_terms.proofs.ViewLemmas.{IsAmong-pairs_of, IsRising-pairs_of}
 use Rattle.td_canon.specs.CanonicalTexts.{text_in, IsListedTree}
-use Rattle.td_model.proofs.SameForms.{labels_zip, zip_answer}
+use Rattle.td_model.proofs.SameForms.{zip_answer}
 use Rattle.td_tree.specs.Trees.{BagPairs, AreTreeNodes, IsListedNode, node_of, preorder}
 use Rattle.td_tree.specs.TreeNetworks.{Part, own_part, top_part, bottom_part, TreeSlot, at_node, at_interface, slots_at, slotted, tree_network}
 use Rattle.td_tree.specs.TreeViews.{Pairs, decorated_of, lists_of}
 use Rattle.td_tree.specs.declared.Tree.{Tree}
 use Rattle.td_tree.specs.declared.TreeNode.{TreeNode}
-use Rattle.td_tree.proofs.TreeNetworkLemmas.{IsPairAt, count_from, labels-numbered, list_of, pair_value, same_terms}
+use Rattle.td_tree.proofs.TreeNetworkLemmas.{IsPairAt, labels-numbered, list_of, pair_value, same_terms, IsAmong-count_from}
 use Rattle.tg_reader.specs.Writable.{IsMark, IsWritableTerm, IsWritablePair, IsWritableOwn, IsWritableNode, IsWritableLiteral, IsWritableTree}
-use Rattle.mg_lists.proofs.ModelForms.{IsFineForm, IsFineNode, IsFineFeature, IsFineProperty, IsFineLabel, IsMarkLabel, labels_map}
+use Rattle.mg_lists.proofs.ModelForms.{IsFineForm, IsFineNode, IsFineFeature, IsFineProperty, IsFineLabel, IsMarkLabel}
 
 -- ---- nodes in preorder and their numbers
 
@@ -51,16 +53,6 @@ forest_bags P Q one n parent (tree b kids more) h =
           (forest_bags P Q one (suc n) (Some n) kids (Each-left P under right h.1))
           (forest_bags P Q one (suc n + size kids) parent more (Each-right P under right h.1)),
     )
-
-counted_at : {A : Type 0} (n i : ℕ) (xs : List A) (x : A) → slice_get xs i ≡ Some x → IsAmong (count_from n xs) (n + i, x)
-counted_at n i [] x at = absurd (none-some x at)
-counted_at n zero (y ∷ ys) x at = inl (let e : n + zero ≡ n = omega arith in let f : x ≡ y = sym (same_Some y x at) in λ j. (e j, f j))
-counted_at n (suc i) (y ∷ ys) x at = let e : n + suc i ≡ suc n + i = omega arith in inr (subst (λ m. IsAmong (count_from (suc n) ys) (m, x)) (sym e) (counted_at (suc n) i ys x at))
-
-mapped_at : {A B : Type 0} (f : A → B) (xs : List A) (i : ℕ) (x : A) → slice_get xs i ≡ Some x → slice_get (map f xs) i ≡ Some (f x)
-mapped_at f [] i x at = absurd (none-some x at)
-mapped_at f (y ∷ ys) zero x at = ap (λ z. Some (f z)) (same_Some y x at)
-mapped_at f (y ∷ ys) (suc i) x at = mapped_at f ys i x at
 
 -- the lists of bags whose attributes rise
 record IsListedBags (b : Node BagPairs) : Type 0 where
@@ -97,7 +89,7 @@ module _ (texts : List (List ℕ)) (t : Tree) (listed : IsListedTree t) (nodes :
   part_rising bottom_part n h = h.bottom
 
   rising_lists : Each AreRisingLists (labels d.nodes)
-  rising_lists = subst (Each AreRisingLists) (sym (labels_map lists_of nodes.forest)) (by (labels nodes.forest) listed_bags)
+  rising_lists = subst (Each AreRisingLists) (sym (labels-map lists_of nodes.forest)) (by (labels nodes.forest) listed_bags)
     where
       by : (bs : List (Node BagPairs)) → Each IsListedBags bs → Each AreRisingLists (map lists_of bs)
       by [] h = tt
@@ -161,9 +153,9 @@ module _ (texts : List (List ℕ)) (t : Tree) (listed : IsListedTree t) (nodes :
 
     slots_there : (i : ℕ) (b : Node BagPairs) → slice_get (labels nodes.forest) i ≡ Some b → IsAmong (labels (slotted d).nodes) (slots_at i)
     slots_there i b at =
-        let lists : slice_get (labels d.nodes) i ≡ Some (lists_of b) = ap (λ xs. slice_get xs i) (labels_map lists_of nodes.forest) ∙ mapped_at lists_of (labels nodes.forest) i b at in
-        let counted = subst (λ xs. IsAmong xs (0 + i, lists_of b)) (sym (labels-numbered 0 d.nodes)) (counted_at 0 i (labels d.nodes) (lists_of b) lists) in
-        let mapped = subst (λ xs. IsAmong xs (slots_at (0 + i))) (sym (labels_map (λ (p : ℕ × Node Pairs). slots_at p.0) (with_numbers 0 d.nodes)))
+        let lists : slice_get (labels d.nodes) i ≡ Some (lists_of b) = ap (λ xs. slice_get xs i) (labels-map lists_of nodes.forest) ∙ slice_get-mapped lists_of (labels nodes.forest) i b at in
+        let counted = subst (λ xs. IsAmong xs (0 + i, lists_of b)) (sym (labels-numbered 0 d.nodes)) (IsAmong-count_from 0 i (labels d.nodes) (lists_of b) lists) in
+        let mapped = subst (λ xs. IsAmong xs (slots_at (0 + i))) (sym (labels-map (λ (p : ℕ × Node Pairs). slots_at p.0) (with_numbers 0 d.nodes)))
         (IsAmong-map (λ (p : ℕ × Node Pairs). slots_at p.0) (labels (with_numbers 0 d.nodes)) (0 + i, lists_of b) counted) in
         subst (λ k. IsAmong (labels (slotted d).nodes) (slots_at k)) (omega arith) mapped
 
@@ -172,9 +164,9 @@ module _ (texts : List (List ℕ)) (t : Tree) (listed : IsListedTree t) (nodes :
 
     bags_writable : Each (IsFineNode texts) (labels c.nodes) → (i : ℕ) (b : Node BagPairs) → slice_get (labels nodes.forest) i ≡ Some b → AreWritableBags texts b
     bags_writable fine i b at =
-        let lists : slice_get (labels d.nodes) i ≡ Some (lists_of b) = ap (λ xs. slice_get xs i) (labels_map lists_of nodes.forest) ∙ mapped_at lists_of (labels nodes.forest) i b at in
+        let lists : slice_get (labels d.nodes) i ≡ Some (lists_of b) = ap (λ xs. slice_get xs i) (labels-map lists_of nodes.forest) ∙ slice_get-mapped lists_of (labels nodes.forest) i b at in
         let i' = slots_there i b at in
-        let r = zip_answer (ListsNode (text_in texts) M label) (labels (slotted d).nodes) (labels c.nodes) (slots_at i) (labels_zip (ListsNode (text_in texts) M label) (slotted d).nodes c.nodes form.nodes) i' in
+        let r = zip_answer (ListsNode (text_in texts) M label) (labels (slotted d).nodes) (labels c.nodes) (slots_at i) (labels-alike (ListsNode (text_in texts) M label) (slotted d).nodes c.nodes form.nodes) i' in
         let f : IsFineNode texts r.0 = Each-at (IsFineNode texts) (labels c.nodes) r.0 fine r.1 in
         record {
           own = properties_writable (at_node i own_part) (slot_there (slots_at i) i' (at_node i own_part) (inl refl)) b.own (λ p k. (lists_of b, lists, k)) r.0.own r.2.own f.own;

@@ -1,11 +1,11 @@
 -- The canonical form of a model of what can be written can be written.
-use Rattle.std.specs.Prelude.{◌≡◌, ◌≢◌, ℕ, zero, suc, ◌<◌, List, [], ◌∷◌, ◌++◌, map, length, codes, Bool, true, false, Option, Some, None, slice_get, ⊤, ◌⊎◌, refl}
-use Rattle.std.specs.List.{AllZip}
-use Rattle.std.proofs.Common.{inl, inr, ap, ap₂, sym, ◌∙◌, subst, arith}
-use Rattle.std.proofs.lemmas.List.{map-append}
+use Rattle.std.specs.Prelude.{◌≡◌, ◌≢◌, ℕ, ◌<◌, List, [], ◌∷◌, map, length, codes, Bool, true, false, Option, Some, None, slice_get, ⊤, ◌⊎◌, refl}
+use Rattle.std.proofs.Common.{inl, inr, ap, sym, ◌∙◌, subst}
 use Rattle.gr_base.specs.Lists.{IsAmong, Each, gathered}
-use Rattle.gr_base.specs.Forests.{Forest, empty, tree, labels, map_forest, AreAlike}
-use Rattle.gr_base.proofs.ListLemmas.{Each-at, Each-members, IsAmong-append, IsAmong-append_left, IsAmong-append_right, IsAmong-gathered, IsAmong-gathered_from, Each-map, IsAmong-map_from, IsAmong-slice_get}
+use Rattle.gr_base.specs.Forests.{Forest, labels, AreAlike}
+use Rattle.gr_base.proofs.ListLemmas.{Each-at, Each-members, IsAmong-append, IsAmong-append_left, IsAmong-append_right, IsAmong-gathered, IsAmong-gathered_from, Each-map, IsAmong-map_from, IsAmong-slice_get, slice_get-not_none}
+use Rattle.gr_base.proofs.ForestLemmas.{labels-map}
+use Rattle.gr_base.proofs.Zips.{labels-alike, AllZip-second}
 use Rattle.gr_terms.specs.Canonical.{Decorated, Label, Literal, Node, Pairs, named, numbered, node_slots, tree_slots, literal_terms, map_literal, IsMet, IsExact, IsCanonicalForm, ListsSlot, ListsNode}
 use Rattle.gr_terms.specs.Constants.{MARK}
 use Rattle.gr_terms.specs.Networks.{Term, name, variable, Assertion, entry, equate, link, AreLinked, AreLinkedSlots, HasValue, equated, shared, same, back, next, linked, same_slot, back_slot, next_slot}
@@ -14,7 +14,6 @@ use Rattle.td_colour.specs.Models.{IsMinimalModel, merged_network, model_tree, n
 use Rattle.td_desc.specs.Descriptions.{Description, DescribedNode}
 use Rattle.td_forest.specs.Nodes.{IsNodeSet}
 use Rattle.td_forest.proofs.Sets.{set_in}
-use Rattle.td_model.proofs.SameForms.{labels_zip}
 use Rattle.mg_facts.specs.declared.variable.Variable.{Variable}
 use Rattle.mg_facts.specs.Said.{Slot, Said, block, related, one_node, identified, is_name, coloured, paired, says}
 use Rattle.mg_facts.specs.Meanings.{one_assertions, assertions, literal_of, IsDescribed, IsNode}
@@ -52,22 +51,6 @@ module _ (texts : List (List ℕ)) where
     pub literals : Each (λ l. Each IsFineLabel (literal_terms l)) c.literals
 
 -- ---- lists in step
-
-zip_at : {A B : Type 0} (R : A → B → Type 0) (xs : List A) (ys : List B) (y : B) → AllZip R xs ys → IsAmong ys y → (x : A) × IsAmong xs x × R x y
-zip_at R [] [] y h i = absurd i
-zip_at R [] (b ∷ ys) y h i = absurd h
-zip_at R (a ∷ xs) [] y h i = absurd i
-zip_at R (a ∷ xs) (b ∷ ys) y h (inl e) = (a, inl refl, subst (λ z. R a z) (sym e) h.0)
-zip_at R (a ∷ xs) (b ∷ ys) y h (inr i) = let r = zip_at R xs ys y h.1 i in (r.0, inr r.1, r.2)
-
-not_there : {A : Type 0} (xs : List A) (i : ℕ) → i < length xs → slice_get xs i ≡ None → ⊥
-not_there [] i h e = absurd (omega arith)
-not_there (x ∷ xs) zero h e = absurd cc
-not_there (x ∷ xs) (suc i) h e = not_there xs i (omega arith) e
-
-pub labels_map : {A B : Type 0} (h : A → B) (f : Forest A) → labels (map_forest h f) ≡ map h (labels f)
-labels_map h empty = refl
-labels_map h (tree a kids more) = ap (λ z. h a ∷ z) (ap₂ (λ x y. x ++ y) (labels_map h kids) (labels_map h more) ∙ sym (map-append h (labels kids) (labels more)))
 
 -- ---- networks of what can be written
 
@@ -109,7 +92,7 @@ module _ (texts : List (List ℕ)) where
 
     node_has : (n : DescribedNode Slot) → IsAmong d.nodes n → HasSlots n
     node_has n i =
-        let r = zip_at (IsNode all) is.variables d.nodes n is.nodes i in
+        let r = AllZip-second (IsNode all) is.variables d.nodes n is.nodes i in
         record { own = ap (λ (s : Node Slot). is_own s.own) r.2.1; top = ap (λ (s : Node Slot). is_own s.top) r.2.1; bottom = ap (λ (s : Node Slot). is_own s.bottom) r.2.1 }
 
     links_assert : (o p : Option (DescribedNode Slot)) → ((n : DescribedNode Slot) → o ≡ Some n → HasSlots n) → ((n : DescribedNode Slot) → p ≡ Some n → HasSlots n) → (e : Assertion Variable Slot) → IsAmong (node_links o p) e → CanAssert e
@@ -219,7 +202,7 @@ module _ (texts : List (List ℕ)) where
             within = (minimal.model.nodes.nodes x).0 (set_in F (x ∷ xs) x i (inl refl))
 
             there : (o : Option (DescribedNode Slot)) → slice_get d.nodes x ≡ o → let n : Node Slot = elim o [ None ↦ record { own = d.interface; top = d.interface; bottom = d.interface } | Some n ↦ n.slots ] in is_own n.own ≡ true
-            there None e = absurd (not_there d.nodes x within e)
+            there None e = absurd (slice_get-not_none d.nodes x within e)
             there (Some n) e = (node_has n (IsAmong-slice_get d.nodes x n e)).own
 
         slot_there : (n : Node Slot) → IsAmong (labels (model_tree d F).nodes) n → (s : Slot) → IsAmong (node_slots n) s → IsAmong (tree_slots (model_tree d F)) s
@@ -234,8 +217,8 @@ module _ (texts : List (List ℕ)) where
 
         nodes_fine : (g : Forest (Node Pairs)) → AreAlike (ListsNode (text_in texts) N label) (model_tree d F).nodes g → Each (IsFineNode texts) (labels g)
         nodes_fine g alike = Each-members (IsFineNode texts) (labels g) (λ p j.
-            let r = zip_at (ListsNode (text_in texts) N label) (labels (model_tree d F).nodes) (labels g) p (labels_zip (ListsNode (text_in texts) N label) (model_tree d F).nodes g alike) j in
-            let set = IsAmong-map_from (slots_at d.nodes d.interface) (labels F) r.0 (subst (λ z. IsAmong z r.0) (labels_map (slots_at d.nodes d.interface) F) r.1) in
+            let r = AllZip-second (ListsNode (text_in texts) N label) (labels (model_tree d F).nodes) (labels g) p (labels-alike (ListsNode (text_in texts) N label) (model_tree d F).nodes g alike) j in
+            let set = IsAmong-map_from (slots_at d.nodes d.interface) (labels F) r.0 (subst (λ z. IsAmong z r.0) (labels-map (slots_at d.nodes d.interface) F) r.1) in
             node_fine r.0 p r.1 (subst (λ (z : Node Slot). is_own z.own ≡ true) (sym set.2) (set_has set.0 set.1)) r.2)
 
       -- ---- the literals

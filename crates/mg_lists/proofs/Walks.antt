@@ -2,7 +2,7 @@
 use Rattle.std.specs.Prelude.{◌≡◌, ℕ, ◌+◌, List, [], ◌∷◌, ◌++◌, map, Some, refl}
 use Rattle.std.proofs.Common.{sym, subst}
 use Rattle.gr_base.specs.Lists.{Each}
-use Rattle.gr_base.proofs.ListLemmas.{Each-at, Each-append, Each-map, IsAmong-slice_get}
+use Rattle.gr_base.proofs.ListLemmas.{Each-at, Each-append, Each-map, IsAmong-slice_get, Each-weaker}
 use Rattle.gr_reader.proofs.Texts.{all_have, all_written}
 use Rattle.gr_symbols.specs.Numbers.{Grows}
 use Rattle.gr_terms.specs.declared.Sym.{Sym}
@@ -19,7 +19,6 @@ use Rattle.mg_deeds.specs.Sayings.{import_said, dot_said, deed_said}
 use Rattle.mg_deeds.specs.Weights.{deed_weight}
 use Rattle.mg_expand.specs.Walks.{How, imported, called, bound_to, Walk, Task, a_call, a_choice, task_of, tasks_of, IsAlternative, Does, done, takes, performs, enters, IsExpansion}
 use Rattle.mg_expand.specs.Items.{call_said, call_weight, walk_said, walk_weight, expansion_said}
-use Rattle.mg_syntax.proofs.Names.{Each-by}
 use Rattle.tg_reader.specs.Writable.{IsTable}
 use Rattle.mg_lists.proofs.Sayings.{CanSay, deed_fine}
 use Rattle.mg_lists.proofs.Spelled.{IsSpelledStatement, IsFineTask, IsFineClass, IsKnownItem, statement_task, body_statements, items_known}
@@ -65,7 +64,7 @@ module _ (texts : List (List ℕ)) (table : IsTable texts) (m : List Item) (item
       walk_fine (map task_of s ++ rest) w d
       (Each-append (IsFineTask texts) (map task_of s) rest
       (Each-map task_of (IsFineTask texts) s
-      (Each-by (IsSpelledStatement texts) (λ x. IsFineTask texts (task_of x)) (statement_task texts table) s (alternative_spelled b i s a (body_statements texts table b h.0)))) h.1) here n
+      (Each-weaker (IsSpelledStatement texts) (λ x. IsFineTask texts (task_of x)) (statement_task texts table) s (alternative_spelled b i s a (body_statements texts table b h.0)))) h.1) here n
   walk_fine _ _ (performs {rest} {w} d does) h here n =
       Each-append (CanSay texts) (deed_said here n d) (walk_said m here (n + deed_weight d) w) (deed_fine texts here n d h.0) (walk_fine rest w does h.1 here (n + deed_weight d))
   walk_fine _ _ (enters {rest} {inside} {after} how c k e d more) h here n =

@@ -1,7 +1,8 @@
 -- Brackets of a text, and of what is written in its place.
 use Rattle.std.specs.Prelude.{◌≡◌, ℕ, suc, ◌-◌, List, [], ◌∷◌, ◌++◌, refl}
-use Rattle.std.proofs.Common.{sym, ap, ◌∙◌, subst, arith}
+use Rattle.std.proofs.Common.{sym, ap, ◌∙◌, subst}
 use Rattle.gr_base.specs.Lists.{Each}
+use Rattle.gr_base.proofs.Numbers.{one_less}
 use Rattle.gr_grammar.specs.declared.brackets.Turn.{Turn}
 use Rattle.gr_grammar.specs.declared.brackets.Turn.TheVariants.{Opens, Closes, Neither}
 use Rattle.gr_grammar.specs.Depths.{depth, HasRoom, IsShallow}
@@ -27,9 +28,6 @@ level-append xs ys a b d = behind-append xs ys d ∙ (b (behind d xs) ∙ a d)
 
 pub level-enclosed : (xs : List Turn) → AreLevel xs → AreLevel (Opens ∷ xs ++ Closes ∷ [])
 level-enclosed xs a d = behind-append xs (Closes ∷ []) (suc d) ∙ (ap (λ n. n - 1) (a (suc d)) ∙ one_less d)
-  where
-    one_less : (d : ℕ) → suc d - 1 ≡ d
-    one_less d = omega arith
 
 fits-left : (limit : ℕ) (xs ys : List Turn) (d : ℕ) → Fits limit d (xs ++ ys) → Fits limit d xs
 fits-left limit [] ys d h = tt

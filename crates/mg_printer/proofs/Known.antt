@@ -3,7 +3,7 @@ use Rattle.std.specs.Prelude.{ℕ, ◌<◌, List, [], ◌∷◌, ◌++◌, map, 
 use Rattle.std.specs.List.{filter}
 use Rattle.std.proofs.Common.{subst, sym, ◌∙◌}
 use Rattle.gr_base.specs.Lists.{Each, gathered}
-use Rattle.gr_base.proofs.ListLemmas.{Each-left, Each-right, Each-append, Each-map}
+use Rattle.gr_base.proofs.ListLemmas.{Each-left, Each-right, Each-append, Each-map, Each-weaker}
 use Rattle.gr_terms.specs.declared.Sym.{Sym}
 use Rattle.mg_syntax.specs.declared.body.Ref.{Ref}
 use Rattle.mg_syntax.specs.declared.body.Side.{Side}
@@ -25,7 +25,7 @@ use Rattle.mg_syntax.specs.declared.item.Header.TheVariants.{Domain, Property, F
 use Rattle.mg_syntax.specs.declared.item.Item.{Item}
 use Rattle.mg_syntax.specs.declared.item.Item.TheVariants as item
 use Rattle.mg_syntax.specs.Names.{if_some, one_name, ref_names, side_names, pair_names, bag_names, literal_names, block_names, kid_names, syn_item_names, statement_names, body_names, class_names, argument_names, header_names, item_names, HasTexts}
-use Rattle.mg_syntax.proofs.Names.{Each-by, Each-gathered_from, layer_names, parts_names, block_names-out, kid_names-out, statement_names-roll}
+use Rattle.mg_syntax.proofs.Names.{Each-gathered_from, layer_names, parts_names, block_names-out, kid_names-out, statement_names-roll}
 use Rattle.mg_printer.specs.Pieces.{Piece, a_sign, a_key, a_variable, IsKnown, separated, enclosed}
 use Rattle.mg_printer.specs.Values.{owner_pieces, ref_pieces, side_pieces, pair_pieces, bag_pieces, handle_pieces, arguments_pieces, literal_pieces}
 use Rattle.mg_printer.specs.Blocks.{is_category, name_pieces, colour_parts, property_parts, category_pieces, category_parts, feature_parts, loose_pieces, down_pieces, braced, block_pieces, kid_pieces, syn_item_pieces, relate_text}
@@ -64,7 +64,7 @@ module _ (count : ℕ) where
   inside before after (x ∷ xs) h = (tt, closed (separated (a_sign (codes ",")) (λ p. p) (x ∷ xs)) after (between (codes ",") (λ p. p) (x ∷ xs) h))
 
   each_known : {A : Type 0} (g : A → List Sym) (f : A → List Piece) → ((x : A) → Each Q (g x) → Each P (f x)) → (xs : List A) → Each Q (gathered g xs) → Each (λ x. Each P (f x)) xs
-  each_known g f one xs h = Each-by (λ x. Each Q (g x)) (λ x. Each P (f x)) one xs (Each-gathered_from Q g xs h)
+  each_known g f one xs h = Each-weaker (λ x. Each Q (g x)) (λ x. Each P (f x)) one xs (Each-gathered_from Q g xs h)
 
   kept : {A : Type 0} (R : A → Type 0) (p : A → Bool) (xs : List A) → Each R xs → Each R (filter p xs)
   kept R p [] h = tt
@@ -267,7 +267,7 @@ module _ (count : ℕ) where
 
   listed_known : (key : List ℕ) (f : Sym → List Piece) → ((x : Sym) → Q x → Each P (f x)) → (xs : List Sym) → Each Q xs → Each P (listed key f xs)
   listed_known key f one [] h = tt
-  listed_known key f one (x ∷ xs) h = (tt, in_turn f (x ∷ xs) (Each-by Q (λ x. Each P (f x)) one (x ∷ xs) h))
+  listed_known key f one (x ∷ xs) h = (tt, in_turn f (x ∷ xs) (Each-weaker Q (λ x. Each P (f x)) one (x ∷ xs) h))
 
   class_known : (k : Class) → Each Q (class_names k) → Each P (class_behind k)
   class_known k h =
@@ -286,7 +286,7 @@ module _ (count : ℕ) where
   domain_known : (d : Option (List Sym)) → Each Q (if_some (λ names. names) d) → Each P (domain_pieces d)
   domain_known None h = (tt, tt)
   domain_known (Some names) h =
-      (tt, (tt, closed (separated (a_sign (codes ",")) items.name_pieces names) (codes "}") (between (codes ",") items.name_pieces names (Each-by Q (λ x. Each P (items.name_pieces x)) (λ x q. (q, tt)) names h))))
+      (tt, (tt, closed (separated (a_sign (codes ",")) items.name_pieces names) (codes "}") (between (codes ",") items.name_pieces names (Each-weaker Q (λ x. Each P (items.name_pieces x)) (λ x q. (q, tt)) names h))))
 
   value_known : (o : Option Sym) → Each Q (if_some one_name o) → Each P (value_pieces o)
   value_known None h = tt

@@ -4,15 +4,13 @@ use Rattle.gr_base.specs.Lists.{Each}
 use Rattle.gr_grammar.specs.Grammars.{Grammar, Runs, failed}
 use Rattle.gr_reader.specs.Lexemes.{HasText, lexeme_of}
 use Rattle.gr_symbols.specs.Numbers.{Grows}
-use Rattle.gr_symbols.proofs.NumberLemmas.{Names-grows}
+use Rattle.gr_symbols.proofs.NumberLemmas.{Names-grows, Grows-trans}
 use Rattle.gr_terms.specs.declared.Sym.{Sym}
 use Rattle.gr_tokens.specs.declared.Kind.{Kind as Cut}
 use Rattle.gr_tokens.specs.declared.Kind.TheVariants.{Word, Str, Var, Punct}
 use Rattle.gr_tokens.specs.declared.Token.{Token}
 use Rattle.gr_tokens.specs.Spans.{slice_of}
-use Rattle.gr_tokens.specs.Tokens.{Writes, IsCut, nothing, a_gap, a_token}
-use Rattle.gr_tokens.specs.Answers.{AreTokens}
-use Rattle.gr_tokens.proofs.Openers.{next_some}
+use Rattle.gr_tokens.specs.Tokens.{Writes}
 use Rattle.mg_reader.specs.declared.lexeme.Class.{Class}
 use Rattle.mg_reader.specs.declared.lexeme.Lexeme.{Lexeme}
 use Rattle.mg_reader.specs.declared.cursor.Stop.{Stop}
@@ -55,9 +53,6 @@ each_push bytes texts [] (m ∷ ls) t l h i = absurd h
 each_push bytes texts (u ∷ ts) [] t l h i = absurd h
 each_push bytes texts (u ∷ ts) (m ∷ ls) t l h i = (h.0, each_push bytes texts ts ls t l h.1 i)
 
-grows_on : (a b c : List (List ℕ)) → Grows a b → Grows b c → Grows a c
-grows_on a b c g h = (g.0 ++ h.0, h.1 ∙ (ap (λ z. z ++ h.0) g.1 ∙ append_assoc a g.0 h.0))
-
 -- a front of the tokens was read
 pub record HasRead (bytes : List ℕ) (old new : List (List ℕ)) (all rest : List Token) (found : List Lexeme) : Type 0 where
   pub front : List Token
@@ -83,7 +78,7 @@ read_more bytes old new newer all rest found t more l r e g n i b f =
       split = r.split ∙ (ap (λ z. r.front ++ z) e ∙ sym (append_assoc r.front (t ∷ []) more));
       each = subst (λ z. EachIs bytes newer (r.front ++ t ∷ []) z) (sym f) (each_push bytes newer r.front found t l (each_kept bytes new newer r.front found g r.each) i);
       numbered = numbered_push bytes old new newer r.front t r.numbered b;
-      grows = grows_on old new newer r.grows g;
+      grows = Grows-trans old new newer r.grows g;
       few = omega arith;
       text = text.1;
       written = written.1;
@@ -99,13 +94,3 @@ read_numbered bytes old new all (t ∷ rest) found r e = absurd (omega arith)
 
 pub read_few : (bytes : List ℕ) (old new : List (List ℕ)) (all rest : List Token) (found : List Lexeme) → HasRead bytes old new all rest found → length new ≤ length old + length all
 read_few bytes old new all rest found r = let a = ap length r.split in let b = length-append r.front rest in let c = r.few in omega arith
-
--- each token has a byte at least
-pub cut_few : (before bytes : List ℕ) (ts : List Token) (left : List ℕ) → IsCut before bytes ts left → length ts ≤ length bytes
-cut_few before bytes _ _ nothing = omega arith
-cut_few before bytes ts left (a_gap own rest f g s) = let a = cut_few (before ++ own) rest ts left s in let b = ap length f in let c = length-append own rest in omega arith
-cut_few before bytes _ left (a_token {t = t} {ts = ts} own rest f k s) =
-    let a = cut_few (before ++ own) rest ts left s in let b = ap length f in let c = length-append own rest in let d = next_some t.kind k.text own rest k.next in omega arith
-
-pub tokens_few : (bytes : List ℕ) (ts : List Token) → AreTokens bytes ts → length ts ≤ length bytes
-tokens_few bytes ts a = cut_few [] bytes ts [] a.cut

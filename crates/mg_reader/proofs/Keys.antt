@@ -7,6 +7,7 @@ use Rattle.std.proofs.lemmas.List.{map-append}
 use Rattle.std.proofs.lemmas.Bool.{cases_lt, ne_eqb, eqb-true}
 use Rattle.std.proofs.Math.Bool.{or_assoc}
 use Rattle.std.proofs.Math.Nat.{min-eq_left, min-eq_right, min-le_left}
+use Rattle.gr_base.proofs.Booleans.{or_false, not_not}
 use Rattle.gr_grammar.specs.Grammars.{star, Matches, both, the_left, the_right, no_more, one_more, tree_of, begins, Rounds, round_items, items}
 use Rattle.gr_grammar.proofs.Loops.{ended, ended-items}
 use Rattle.gr_terms.specs.declared.Sym.{Sym}
@@ -41,10 +42,6 @@ given_of_read r = r.given
 pub record KeysRead (s0 s : List ℕ) (c0 c : Option Complaint) (ks : List Lexeme) : Type 0 where
   pub seen : (a : ℕ) → among s a ≡ among (s0 ++ map number_of ks) a
   pub complaint : c ≡ or_first c0 (key_bad s0 ks)
-
-or_false : (a : Bool) → (a || false) ≡ a
-or_false true = refl
-or_false false = refl
 
 among-append : (xs ys : List ℕ) (a : ℕ) → among (xs ++ ys) a ≡ (among xs a || among ys a)
 among-append [] ys a = refl
@@ -219,10 +216,6 @@ pub key_noted_then : (c0 : Option Complaint) {c1 c2 : Option Complaint} {known :
 key_noted_then c0 b y inner j h i e = noted c0 (again b y) inner j (h ∙ (λ n. or_first c0 (again (i n) (e n))))
 
 -- the keys of a set of numbers
-not_not : (b : Bool) → not (not b) ≡ b
-not_not true = refl
-not_not false = refl
-
 among_any : (ks : List ℕ) (a : ℕ) → list_any (λ b. a == b) ks ≡ among ks a
 among_any [] a = refl
 among_any (k ∷ ks) a = ap (λ z. (a == k) || z) (among_any ks a)

@@ -2,12 +2,11 @@
 use Rattle.std.specs.Prelude.{◌≡◌, ℕ, ◌+◌, ◌-◌, ◌≤◌, ◌<◌, List, [], ◌∷◌, length, take, drop, get_or, suc, Bool, true, false, nat_le, nat_lt, ◌&&◌, ◌==◌, if◌then◌else◌, bytes_eq, refl}
 use Rattle.std.proofs.Common.{sym, ap, ◌∙◌, subst, arith, inl, inr}
 use Rattle.std.proofs.Common.{length-take}
-use Rattle.std.proofs.lemmas.Bool.{and_parts, leb-true, ltb-true, le-leb, lt-ltb, eq-eqb, false≢true}
+use Rattle.std.proofs.lemmas.Bool.{and_parts, leb-true, ltb-true, le-leb, lt-ltb, eq-eqb, false≢true, and_from}
 use Rattle.std.proofs.lemmas.Slice.Eq.{bytes_eq-Decides}
 use Rattle.std.proofs.lemmas.List.{get_or-take, get_or-drop, length-drop}
 use Rattle.gr_base.specs.Lists.{IsAmong}
 use Rattle.gr_base.proofs.ListLemmas.{IsAmong-get_or, Each-at}
-use Rattle.gr_tokens.proofs.WordFronts.{and_both}
 use Rattle.gr_grammar.specs.declared.brackets.Turn.TheVariants.{Neither}
 use Rattle.mg_reader.specs.declared.lexeme.Class.TheVariants as of
 use Rattle.mg_reader.specs.declared.lexeme.Kind.{Kind}
@@ -118,12 +117,12 @@ one_kind k t h =
 
 pub is_kind : (k : Kind) (t : Lexeme) → t.kind ≡ k → test (of.Is k) t ≡ true
 is_kind k t e = subst (λ j. (nat_le (kind_number k) (kind_number j) && nat_lt (kind_number j) (suc (kind_number k))) ≡ true) (sym e)
-    (and_both (nat_le (kind_number k) (kind_number k)) (nat_lt (kind_number k) (suc (kind_number k))) (le-leb (kind_number k) (kind_number k) (omega arith)) (lt-ltb (kind_number k) (suc (kind_number k)) (omega arith)))
+    (and_from (nat_le (kind_number k) (kind_number k)) (nat_lt (kind_number k) (suc (kind_number k))) (le-leb (kind_number k) (kind_number k) (omega arith)) (lt-ltb (kind_number k) (suc (kind_number k)) (omega arith)))
 
 -- variables, strings and words are no brackets
 pub flat_kind : (k : Kind) → 24 ≤ kind_number k → kind_number k < 56 → turn_of k ≡ Neither
 flat_kind k a b = Each-at (λ j. turn_of j ≡ Neither) (span 24 56) k (refl, (refl, (refl, (refl, (refl, (refl, (refl, (refl, (refl, (refl, (refl, (refl, (refl, (refl, (refl, (refl, (refl, (refl, (refl, (refl, (refl, (refl, (refl, (refl, (refl, (refl, (refl, (refl, (refl, (refl, (refl, (refl, tt))))))))))))))))))))))))))))))))
-    (in_span 24 56 k (omega arith) (and_both (nat_le 24 (kind_number k)) (nat_lt (kind_number k) 56) (le-leb 24 (kind_number k) a) (lt-ltb (kind_number k) 56 b)))
+    (in_span 24 56 k (omega arith) (and_from (nat_le 24 (kind_number k)) (nat_lt (kind_number k) 56) (le-leb 24 (kind_number k) a) (lt-ltb (kind_number k) 56 b)))
 
 pub in_range : (c : Class) (t : Lexeme) → test c t ≡ true → (low c ≤ kind_number t.kind) × (kind_number t.kind < high c)
 in_range c t h =

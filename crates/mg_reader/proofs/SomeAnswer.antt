@@ -1,6 +1,6 @@
 -- For a text and the table behind it an answer is right.
-use Rattle.std.specs.Prelude.{◌≡◌, ℕ, List, [], ◌∷◌, ◌++◌, drop, Result, Ok, Err, Some, slice_get}
-use Rattle.std.proofs.Common.{refl, inl, inr, ap, sym, ◌∙◌, subst, append_assoc}
+use Rattle.std.specs.Prelude.{◌≡◌, ℕ, List, [], ◌∷◌, drop, Result, Ok, Err, Some, slice_get}
+use Rattle.std.proofs.Common.{refl, inl, inr, sym, ◌∙◌, subst}
 use Rattle.std.proofs.lemmas.List.{append-nil}
 use Rattle.gr_base.specs.Lists.{IsAmong}
 use Rattle.gr_base.proofs.ListLemmas.{slice_get-IsAmong, slice_get-append_left, IsAmong-new_one}
@@ -9,6 +9,7 @@ use Rattle.gr_grammar.specs.Depths.{IsShallow}
 use Rattle.gr_grammar.specs.Readings.{IsReading}
 use Rattle.gr_grammar.proofs.Total.{some_reading}
 use Rattle.gr_symbols.specs.Numbers.{Names, Grows}
+use Rattle.gr_symbols.proofs.NumberLemmas.{Grows-trans}
 use Rattle.gr_terms.specs.declared.Sym.{Sym}
 use Rattle.gr_terms.specs.declared.TheConstants.{EMPTY}
 use Rattle.gr_tokens.specs.declared.Kind.{Kind as Cut}
@@ -45,12 +46,9 @@ behind_grows Str text old new h = named_grows text old new h
 behind_grows Var text old new h = named_grows text old new h
 behind_grows Punct text old new h = ([], h ∙ sym (append-nil old))
 
-grows_through : (old mid new : List (List ℕ)) → Grows old mid → Grows mid new → Grows old new
-grows_through old mid new (a, e) (b, f) = (a ++ b, f ∙ (ap (λ l. l ++ b) e ∙ append_assoc old a b))
-
 numbered_grows : (bytes : List ℕ) (old new : List (List ℕ)) (ts : List Token) → AreNumbered bytes old ts new → Grows old new
 numbered_grows bytes old new [] h = ([], h ∙ sym (append-nil old))
-numbered_grows bytes old new (t ∷ ts) (text, next, w, b, r) = grows_through old next new (behind_grows t.kind text old next b) (numbered_grows bytes next new ts r)
+numbered_grows bytes old new (t ∷ ts) (text, next, w, b, r) = Grows-trans old next new (behind_grows t.kind text old next b) (numbered_grows bytes next new ts r)
 
 -- so the text of a token has a number in it
 stays : (old new : List (List ℕ)) (text : List ℕ) → Grows old new → IsAmong old text → (s : Sym) × Names new s.0 text

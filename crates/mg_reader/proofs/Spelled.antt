@@ -1,8 +1,9 @@
 -- A tree without complaints shows that its value is spelled.
 use Rattle.std.proofs.Common.{◌≡◌, ℕ, suc, ◌+◌, ◌≤◌, List, [], ◌∷◌, ◌++◌, Bool, true, false, refl, ap, sym, ◌∙◌, subst, arith, Option, Some, None, inl, inr}
-use Rattle.std.specs.Prelude.{◌||◌, ◌&&◌, ◌==◌, nat_le, map, is_some, ⊤}
-use Rattle.std.proofs.lemmas.Bool.{true≢false, eq-eqb, cases_lt, leb-true, ltb-true, le-leb, lt-ltb}
+use Rattle.std.specs.Prelude.{◌||◌, ◌==◌, nat_le, map, is_some, ⊤}
+use Rattle.std.proofs.lemmas.Bool.{true≢false, eq-eqb, cases_lt, leb-true, ltb-true, le-leb, lt-ltb, and_from}
 use Rattle.gr_base.specs.Lists.{IsAmong, NoneTwice}
+use Rattle.gr_base.proofs.ListLemmas.{append-nil_left, append-nil_right}
 use Rattle.gr_grammar.specs.Grammars.{tok, star, part, Matches, a_token, no_token, both, the_left, the_right, no_more, one_more, by_part, items}
 use Rattle.gr_terms.specs.declared.Sym.{Sym}
 use Rattle.mg_syntax.specs.declared.body.Side.{Side}
@@ -34,14 +35,6 @@ no_cons e = subst (λ z. Cons z) e tt
     Cons [] = ⊥
     Cons (x ∷ xs) = ⊤
 
-nil_left : {A : Type 0} (xs ys : List A) → xs ++ ys ≡ [] → xs ≡ []
-nil_left [] ys e = refl
-nil_left (x ∷ xs) ys e = absurd (no_cons e)
-
-nil_right : {A : Type 0} (xs ys : List A) → xs ++ ys ≡ [] → ys ≡ []
-nil_right [] ys e = e
-nil_right (x ∷ xs) ys e = absurd (no_cons e)
-
 -- attributes without complaints stand once
 not_again : (b : Bool) (k : Lexeme) → again b k ≡ [] → b ≡ false
 not_again true k e = absurd (no_cons e)
@@ -58,8 +51,8 @@ neither_right false b e = e
 once : (seen : List ℕ) (ks : List Lexeme) → key_bad seen ks ≡ [] → NoneTwice (map number_of ks) × ((x : ℕ) → IsAmong (map number_of ks) x → among seen x ≡ false)
 once seen [] e = (tt, λ x h. absurd h)
 once seen (k ∷ ks) e =
-    let r = once (seen ++ k.name.0 ∷ []) ks (nil_right (again (among seen k.name.0) k) _ e) in
-    let fresh : among seen k.name.0 ≡ false = not_again (among seen k.name.0) k (nil_left (again (among seen k.name.0) k) _ e) in
+    let r = once (seen ++ k.name.0 ∷ []) ks (append-nil_right (again (among seen k.name.0) k) _ e) in
+    let fresh : among seen k.name.0 ≡ false = not_again (among seen k.name.0) k (append-nil_left (again (among seen k.name.0) k) _ e) in
     let behind : (x : ℕ) → IsAmong (map number_of ks) x → (among seen x || (x == k.name.0)) ≡ false = λ x h. sym (among-push seen k.name.0 x) ∙ r.1 x h in (
       (λ h. true≢false (sym (eq-eqb k.name.0 k.name.0 refl) ∙ neither_right (among seen k.name.0) _ (behind k.name.0 h)), r.0),
       λ x h. elim h [ inl q ↦ ap (λ z. among seen z) q ∙ fresh | inr q ↦ neither_left (among seen x) _ (behind x q) ],
@@ -107,9 +100,9 @@ had_without fs (feature.Bottom v) (feature.Bottom w) e = none_else fs.bottom v e
 feature_once : (had : Features) (rs : List FeatureRead) → feature_row_bad had rs ≡ [] → NoneTwice (map feature_number (map given_of_read rs)) × ((x : Feature) → IsAmong (map feature_number (map given_of_read rs)) (feature_number x) → has had x ≡ false)
 feature_once had [] e = (tt, λ x h. absurd h)
 feature_once had (f ∷ rs) e =
-    let own = nil_left (again (has had f.given) f.key) f.inner (nil_left (feature_bad had f) _ e) in
+    let own = append-nil_left (again (has had f.given) f.key) f.inner (append-nil_left (feature_bad had f) _ e) in
     let fresh : has had f.given ≡ false = not_again (has had f.given) f.key own in
-    let r = feature_once (with_feature had f.given) rs (nil_right (feature_bad had f) _ e) in (
+    let r = feature_once (with_feature had f.given) rs (append-nil_right (feature_bad had f) _ e) in (
       (λ h. true≢false (sym (has_with had f.given f.given refl) ∙ r.1 f.given h), r.0),
       λ x h. elim h [ inl q ↦ had_here had f.given x q fresh | inr q ↦ had_without had f.given x (r.1 x q) ],
     )
@@ -204,10 +197,10 @@ spelled_feature (the_right (the_left (both (a_token k) (both (a_token s) b)))) e
 spelled_feature (the_right (the_right (both (a_token k) (both (a_token s) b)))) e = a_bottom k s (spelled_bag b e)
 
 inner_nil : (had : Features) (r : FeatureRead) (rs : List FeatureRead) → feature_row_bad had (r ∷ rs) ≡ [] → r.inner ≡ []
-inner_nil had r rs e = nil_right (again (has had r.given) r.key) r.inner (nil_left (feature_bad had r) _ e)
+inner_nil had r rs e = append-nil_right (again (has had r.given) r.key) r.inner (append-nil_left (feature_bad had r) _ e)
 
 rest_nil : (had : Features) (r : FeatureRead) (rs : List FeatureRead) → feature_row_bad had (r ∷ rs) ≡ [] → feature_row_bad (with_feature had r.given) rs ≡ []
-rest_nil had r rs e = nil_right (feature_bad had r) _ e
+rest_nil had r rs e = append-nil_right (feature_bad had r) _ e
 
 spelled_features : (had : Features) {ts mid rest : List Lexeme} (f : Matches system feature_text ts mid) (fs : Matches system (star more_feature_text) mid rest) → feature_row_bad had (feature_read f ∷ items (λ ts rest m. more_feature_read m) fs) ≡ [] →
     Separated kind.Comma SpellsFeature (feature_of f ∷ items (λ ts rest m. more_feature_of m) fs) ts rest
@@ -253,17 +246,17 @@ node_spelled {w} {name} {ps} {fs} {kids} {ts} {rest = rest} h n p f k =
 mutual
   spelled_node : {ts rest : List Lexeme} (m : Matches system (part 1) ts rest) → node_bad m ≡ [] → SpellsNode (node_of m) ts rest
   spelled_node (by_part (both (a_token w) (both n (both ps (both fs ks))))) e =
-      node_spelled w (spelled_name n) (spelled_property_list ps (nil_left (property_list_bad ps) _ e)) (spelled_feature_list fs (nil_left (feature_list_bad fs) _ (nil_right (property_list_bad ps) _ e)))
-      (spelled_kid_list ks (nil_right (feature_list_bad fs) _ (nil_right (property_list_bad ps) _ e)))
+      node_spelled w (spelled_name n) (spelled_property_list ps (append-nil_left (property_list_bad ps) _ e)) (spelled_feature_list fs (append-nil_left (feature_list_bad fs) _ (append-nil_right (property_list_bad ps) _ e)))
+      (spelled_kid_list ks (append-nil_right (feature_list_bad fs) _ (append-nil_right (property_list_bad ps) _ e)))
 
   spelled_kid_list : {ts rest : List Lexeme} (m : Matches system kid_list_text ts rest) → kid_list_bad m ≡ [] → SpellsKids (kid_list_of m) ts rest
-  spelled_kid_list (the_left (both (a_token o) (both (the_left (both k ks)) (a_token c)))) e = a_kid_list o (spelled_kid false k (nil_left (kid_bad k) _ e)) (spelled_more_kids ks (nil_right (kid_bad k) _ e)) c
+  spelled_kid_list (the_left (both (a_token o) (both (the_left (both k ks)) (a_token c)))) e = a_kid_list o (spelled_kid false k (append-nil_left (kid_bad k) _ e)) (spelled_more_kids ks (append-nil_right (kid_bad k) _ e)) c
   spelled_kid_list (the_left (both (a_token o) (both (the_right no_token) (a_token c)))) e = empty_kid_list o c
   spelled_kid_list (the_right no_token) e = no_kid_list
 
   spelled_more_kids : {ts rest : List Lexeme} (m : Matches system (star next_kid_text) ts rest) → more_kids_bad m ≡ [] → SpellsMoreKids (more_kids_of m) ts rest
   spelled_more_kids no_more e = no_more_kids
-  spelled_more_kids (one_more (both (both l k) ks)) e = one_more_kid (spelled_loose l) (spelled_kid (is_there l) k (nil_left (kid_bad k) _ e)) (spelled_more_kids ks (nil_right (kid_bad k) _ e))
+  spelled_more_kids (one_more (both (both l k) ks)) e = one_more_kid (spelled_loose l) (spelled_kid (is_there l) k (append-nil_left (kid_bad k) _ e)) (spelled_more_kids ks (append-nil_right (kid_bad k) _ e))
 
   spelled_kid : (loose : Bool) {ts rest : List Lexeme} (m : Matches system kid_text ts rest) → kid_bad m ≡ [] → SpellsKid loose (kid_of loose m) ts rest
   spelled_kid loose (both d n) e = a_kid (spelled_down d) (spelled_node n e)
@@ -275,8 +268,8 @@ spelled_syn_item (the_right (both a (both (a_token o) b))) e = a_relation (spell
 
 spelled_syn_items : {ts mid rest : List Lexeme} (m : Matches system syn_item_text ts mid) (ms : Matches system (star more_syn_item_text) mid rest) → syn_item_bad m ++ all_of (items (λ ts rest m. more_syn_item_bad m) ms) ≡ [] →
     Separated kind.Semicolon SpellsSynItem (syn_item_of m ∷ items (λ ts rest m. more_syn_item_of m) ms) ts rest
-spelled_syn_items m no_more e = last_separated (spelled_syn_item m (nil_left (syn_item_bad m) _ e))
-spelled_syn_items m (one_more (both (both (a_token s) n) ns)) e = separated (spelled_syn_item m (nil_left (syn_item_bad m) _ e)) s (spelled_syn_items n ns (nil_right (syn_item_bad m) _ e))
+spelled_syn_items m no_more e = last_separated (spelled_syn_item m (append-nil_left (syn_item_bad m) _ e))
+spelled_syn_items m (one_more (both (both (a_token s) n) ns)) e = separated (spelled_syn_item m (append-nil_left (syn_item_bad m) _ e)) s (spelled_syn_items n ns (append-nil_right (syn_item_bad m) _ e))
 
 spelled_perhaps_syn_items : {ts rest : List Lexeme} (m : Matches system perhaps_syn_items_text ts rest) → perhaps_syn_items_bad m ≡ [] → Maybe (Separated kind.Semicolon SpellsSynItem) (perhaps_syn_items_of m) ts rest
 spelled_perhaps_syn_items (the_left (both m ms)) e = something (spelled_syn_items m ms e)
@@ -296,11 +289,7 @@ is_name c a b t h =
     let n = kind_number t.kind in
     let l = leb-true (low of.Name) (low c) a in let u = leb-true (high c) (high of.Name) b in
     let m = leb-true (low c) n (and_left (nat_le (low c) n) _ h) in let v = ltb-true n (high c) (and_right (nat_le (low c) n) _ h) in
-    and_true (nat_le (low of.Name) n) _ (le-leb (low of.Name) n (omega arith)) (lt-ltb n (high of.Name) (omega arith))
-  where
-    and_true : (a b : Bool) → a ≡ true → b ≡ true → (a && b) ≡ true
-    and_true true b h i = i
-    and_true false b h i = h
+    and_from (nat_le (low of.Name) n) _ (le-leb (low of.Name) n (omega arith)) (lt-ltb n (high of.Name) (omega arith))
 
 spelled_variable : {ts rest : List Lexeme} (m : Matches system variable_text ts rest) → SpellsStatement (variable_of m) ts rest
 spelled_variable (both (a_token x) (the_left (both (a_token d) (both (a_token y) (both (a_token e) s))))) = an_equation (a_dotted_ref x d y) e (spelled_side s)
@@ -313,19 +302,19 @@ spelled_variable (both (a_token x) (the_right (both (a_token e) (the_right (the_
 -- bodies
 mutual
   spelled_body : {ts rest : List Lexeme} (m : Matches system (part 0) ts rest) → body_bad m ≡ [] → SpellsBody (body_of m) ts rest
-  spelled_body (by_part (the_left (both a more))) e = a_body (spelled_alternative a (nil_left (alternative_bad a) _ e)) (spelled_more_alternatives more (nil_right (alternative_bad a) _ e))
+  spelled_body (by_part (the_left (both a more))) e = a_body (spelled_alternative a (append-nil_left (alternative_bad a) _ e)) (spelled_more_alternatives more (append-nil_right (alternative_bad a) _ e))
   spelled_body (by_part (the_right no_token)) e = empty_body
 
   spelled_more_alternatives : {ts rest : List Lexeme} (m : Matches system (star more_alternative_text) ts rest) → more_alternatives_bad m ≡ [] → SpellsMoreAlternatives (more_alternatives_of m) ts rest
   spelled_more_alternatives no_more e = no_more_alternatives
-  spelled_more_alternatives (one_more (both (both (a_token b) a) more)) e = one_more_alternative b (spelled_alternative a (nil_left (alternative_bad a) _ e)) (spelled_more_alternatives more (nil_right (alternative_bad a) _ e))
+  spelled_more_alternatives (one_more (both (both (a_token b) a) more)) e = one_more_alternative b (spelled_alternative a (append-nil_left (alternative_bad a) _ e)) (spelled_more_alternatives more (append-nil_right (alternative_bad a) _ e))
 
   spelled_alternative : {ts rest : List Lexeme} (m : Matches system alternative_text ts rest) → alternative_bad m ≡ [] → SpellsAlternative (alternative_of m) ts rest
-  spelled_alternative (both s ss) e = an_alternative (spelled_statement s (nil_left (statement_bad s) _ e)) (spelled_more_statements ss (nil_right (statement_bad s) _ e))
+  spelled_alternative (both s ss) e = an_alternative (spelled_statement s (append-nil_left (statement_bad s) _ e)) (spelled_more_statements ss (append-nil_right (statement_bad s) _ e))
 
   spelled_more_statements : {ts rest : List Lexeme} (m : Matches system (star more_statement_text) ts rest) → more_statements_bad m ≡ [] → SpellsMoreStatements (more_statements_of m) ts rest
   spelled_more_statements no_more e = no_more_statements
-  spelled_more_statements (one_more (both (both (a_token b) s) ss)) e = one_more_statement b (spelled_statement s (nil_left (statement_bad s) _ e)) (spelled_more_statements ss (nil_right (statement_bad s) _ e))
+  spelled_more_statements (one_more (both (both (a_token b) s) ss)) e = one_more_statement b (spelled_statement s (append-nil_left (statement_bad s) _ e)) (spelled_more_statements ss (append-nil_right (statement_bad s) _ e))
 
   spelled_statement : {ts rest : List Lexeme} (m : Matches system statement_text ts rest) → statement_bad m ≡ [] → SpellsStatement (statement_of m) ts rest
   spelled_statement (the_left (both (a_token o) (both b (a_token c)))) e = a_group o (spelled_body b e) c
@@ -390,13 +379,13 @@ spelled_header (the_right (the_right (the_right (both (a_token w) (both (a_token
 
 -- the whole
 spelled_item : (n : ℕ) {ts rest : List Lexeme} (m : Matches system item_text ts rest) → item_bad n (item_read m) ≡ [] → SpellsItem (item_of m) ts rest
-spelled_item n (the_left m) e = a_class_item (spelled_class m (nil_right (word_bad n (Some (class_word m))) _ e))
+spelled_item n (the_left m) e = a_class_item (spelled_class m (append-nil_right (word_bad n (Some (class_word m))) _ e))
 spelled_item n (the_right (the_left (both (a_token w) (a_token t)))) e = a_value_item w t
 spelled_item n (the_right (the_right m)) e = a_header_item (spelled_header m)
 
 spelled_items : (n : ℕ) {ts mid rest : List Lexeme} (m : Matches system item_text ts mid) (ms : Matches system metagrammar_text mid rest) → item_row_bad n (item_read m ∷ items (λ ts rest m. item_read m) ms) ≡ [] → Row SpellsItem (item_of m ∷ items (λ ts rest m. item_of m) ms) ts rest
-spelled_items n m no_more e = last_in_row (spelled_item n m (nil_left (item_bad n (item_read m)) _ e))
-spelled_items n m (one_more (both k ks)) e = in_row (spelled_item n m (nil_left (item_bad n (item_read m)) _ e)) (spelled_items (with_class n (item_read m).word) k ks (nil_right (item_bad n (item_read m)) _ e))
+spelled_items n m no_more e = last_in_row (spelled_item n m (append-nil_left (item_bad n (item_read m)) _ e))
+spelled_items n m (one_more (both k ks)) e = in_row (spelled_item n m (append-nil_left (item_bad n (item_read m)) _ e)) (spelled_items (with_class n (item_read m).word) k ks (append-nil_right (item_bad n (item_read m)) _ e))
 
 pub spelled_metagrammar : {ts : List Lexeme} (m : Matches system metagrammar_text ts []) → metagrammar_bad m ≡ [] → Spells (metagrammar_of m) ts
 spelled_metagrammar no_more e = nothing
@@ -413,8 +402,8 @@ not_too_many n w e h = true≢false (sym (eq-eqb n 4096 h) ∙ not_so (n == 4096
 few_items : (n : ℕ) → n ≤ 4096 → {ts rest : List Lexeme} (m : Matches system metagrammar_text ts rest) → item_row_bad n (items (λ ts rest m. item_read m) m) ≡ [] → n + class_count (items (λ ts rest m. item_of m) m) ≤ 4096
 few_items n l no_more e = omega arith
 few_items n l (one_more (both (the_left m) ms)) e =
-    let h = not_too_many n (class_word m) (nil_left (too_many (n == 4096) (class_word m)) _ (nil_left (item_bad n (item_read (the_left m))) _ e)) in
-    let k = few_items (suc n) (elim (cases_lt n 4096) [ inl x ↦ x | inr y ↦ absurd (h (omega arith)) ]) ms (nil_right (item_bad n (item_read (the_left m))) _ e) in omega arith
+    let h = not_too_many n (class_word m) (append-nil_left (too_many (n == 4096) (class_word m)) _ (append-nil_left (item_bad n (item_read (the_left m))) _ e)) in
+    let k = few_items (suc n) (elim (cases_lt n 4096) [ inl x ↦ x | inr y ↦ absurd (h (omega arith)) ]) ms (append-nil_right (item_bad n (item_read (the_left m))) _ e) in omega arith
 few_items n l (one_more (both (the_right (the_left m)) ms)) e = few_items n l ms e
 few_items n l (one_more (both (the_right (the_right m)) ms)) e = few_items n l ms e
 

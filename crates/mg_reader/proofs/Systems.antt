@@ -1,7 +1,8 @@
 -- The system of metagrammars is one.
-use Rattle.std.proofs.Common.{◌≡◌, ℕ, zero, suc, List, [], ◌∷◌, Bool, true, false, refl, sym, inl, inr, arith}
-use Rattle.std.specs.Prelude.{◌||◌, ◌&&◌, nat_le}
-use Rattle.std.proofs.lemmas.Bool.{true≢false, ltb-true, leb-true, le-leb, lt-ltb}
+use Rattle.std.proofs.Common.{◌≡◌, ℕ, zero, suc, List, [], ◌∷◌, true, false, refl, sym, inl, inr, arith}
+use Rattle.std.specs.Prelude.{nat_le}
+use Rattle.std.proofs.lemmas.Bool.{true≢false, ltb-true, leb-true, le-leb, lt-ltb, and_from}
+use Rattle.gr_base.proofs.Booleans.{or_false_is}
 use Rattle.gr_grammar.specs.Grammars.{IsSystem, Matches, a_token, no_token, both, the_left, the_right, no_more, by_part, nullable, is_of, is_clear, first, goes}
 use Rattle.gr_grammar.proofs.Fronts.{and_left, and_right, or_cases}
 use Rattle.gr_terms.specs.declared.TheConstants.{EMPTY}
@@ -25,11 +26,7 @@ abbrev lexeme : Kind → Lexeme
 lexeme k = record { kind = k; name = EMPTY; place = record { line = 1; column = 1 } }
 
 itself : (k : Kind) → test (class.Is k) (lexeme k) ≡ true
-itself k = both_true (nat_le (kind_number k) (kind_number k)) _ (le-leb (kind_number k) (kind_number k) (omega arith)) (lt-ltb (kind_number k) (suc (kind_number k)) (omega arith))
-  where
-    both_true : (a b : Bool) → a ≡ true → b ≡ true → (a && b) ≡ true
-    both_true true b h i = i
-    both_true false b h i = h
+itself k = and_from (nat_le (kind_number k) (kind_number k)) _ (le-leb (kind_number k) (kind_number k) (omega arith)) (lt-ltb (kind_number k) (suc (kind_number k)) (omega arith))
 
 shown : (c : Class) → (t : Lexeme) × (test c t ≡ true)
 shown (class.Is k) = (lexeme k, itself k)
@@ -67,10 +64,6 @@ none (suc n) e ts = absurd (true≢false (sym e))
 one_statement : {ts rest : List Lexeme} → Matches system statement_text ts rest → Matches system (parts 0) ts rest
 one_statement m = the_left (both (both m no_more) no_more)
 
-first_of : (b : Bool) → (b || false) ≡ true → b ≡ true
-first_of true h = refl
-first_of false h = h
-
 begun : (n : ℕ) (t : Lexeme) → is_of system (info n).first t ≡ true → (ts : List Lexeme) × Matches system (parts n) (t ∷ ts) []
 begun zero t i = elim (or_cases (test (class.Is kind.LeftBrace) t) _ i) [
   | inl x ↦ (lexeme kind.RightBrace ∷ [], one_statement (the_left (both (a_token x) (both (by_part (the_right no_token)) (a_token refl)))))
@@ -80,12 +73,12 @@ begun zero t i = elim (or_cases (test (class.Is kind.LeftBrace) t) _ i) [
       | inl x ↦ (lexeme kind.Equals ∷ lexeme kind.Str ∷ [], one_statement (the_right (the_right (the_left (both (a_token x) (the_right (both (a_token refl) (the_right (the_right (the_left (a_token refl)))))))))))
       | inr w ↦ (
         lexeme kind.Syn ∷ lexeme kind.Greater ∷ lexeme kind.LeftBrace ∷ lexeme kind.RightBrace ∷ [],
-        one_statement (the_right (the_right (the_right (both (a_token (first_of _ w)) (the_left (both (a_token refl) (both (a_token refl) (both (a_token refl) (both (the_right no_token) (a_token refl)))))))))),
+        one_statement (the_right (the_right (the_right (both (a_token (or_false_is _ w)) (the_left (both (a_token refl) (both (a_token refl) (both (a_token refl) (both (the_right no_token) (a_token refl)))))))))),
       )
     ]
   ]
 ]
-begun (suc n) t i = ([], both (a_token (first_of _ i)) (both (the_right no_token) (both (the_right no_token) (both (the_right no_token) (the_right no_token)))))
+begun (suc n) t i = ([], both (a_token (or_false_is _ i)) (both (the_right no_token) (both (the_right no_token) (both (the_right no_token) (the_right no_token)))))
 
 some : (n : ℕ) → (ts : List Lexeme) × Matches system (parts n) ts []
 some zero = ([], the_right no_token)

@@ -1,7 +1,7 @@
 -- What is spelled is a text of the grammar, with the spelled value and without complaints.
 use Rattle.std.proofs.Common.{◌≡◌, ℕ, suc, ◌+◌, ◌≤◌, ◌<◌, List, [], ◌∷◌, ◌++◌, Bool, true, false, refl, ap, sym, ◌∙◌, subst, arith, Option, Some, None, inl, inr}
-use Rattle.std.specs.Prelude.{◌||◌, ◌&&◌, ◌==◌, nat_le, map, ⊤}
-use Rattle.std.proofs.lemmas.Bool.{ne_eqb, cases_lt, leb-true, ltb-true, le-leb, lt-ltb}
+use Rattle.std.specs.Prelude.{◌||◌, ◌==◌, nat_le, map, ⊤}
+use Rattle.std.proofs.lemmas.Bool.{ne_eqb, cases_lt, leb-true, ltb-true, le-leb, lt-ltb, and_from}
 use Rattle.gr_base.specs.Lists.{IsAmong, NoneTwice}
 use Rattle.gr_grammar.specs.Grammars.{Grammar, tok, seq, star, part, Matches, a_token, no_token, both, the_left, the_right, no_more, one_more, by_part, items}
 use Rattle.gr_terms.specs.declared.Sym.{Sym}
@@ -356,11 +356,7 @@ back_call : {n : Sym} {ts rest : List Lexeme} → SpellsCall n ts rest → Has c
 back_call (a_call n o c) = record { tree = both (a_token n) (both (a_token o) (a_token c)); is = refl }
 
 within_class : (c : Class) (t : Lexeme) → low c ≤ kind_number t.kind → kind_number t.kind < high c → test c t ≡ true
-within_class c t l h = both_true _ _ (le-leb (low c) (kind_number t.kind) l) (lt-ltb (kind_number t.kind) (high c) h)
-  where
-    both_true : (a b : Bool) → a ≡ true → b ≡ true → (a && b) ≡ true
-    both_true true b h i = i
-    both_true false b h i = h
+within_class c t l h = and_from _ _ (le-leb (low c) (kind_number t.kind) l) (lt-ltb (kind_number t.kind) (high c) h)
 
 back_name_right : (t : Lexeme) (ts : List Lexeme) → Is of.Name t → Has right_text (λ ts rest m. right_of m) (after.Equals (side.Name t.name)) (t ∷ ts) ts
 back_name_right t ts h =

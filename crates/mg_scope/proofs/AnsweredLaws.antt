@@ -5,6 +5,7 @@ use Rattle.std.proofs.lemmas.Option.{none-some, same_Some, slice_get_within}
 use Rattle.gr_base.specs.Lists.{IsAmong, IsWithin, NoneTwice, Each, gathered}
 use Rattle.gr_base.proofs.ListLemmas.{IsAmong-append_left, IsAmong-append_right, IsAmong-append, Each-at, Each-members}
 use Rattle.gr_base.proofs.Counting.{length-within}
+use Rattle.gr_base.proofs.Numbers.{before_or_at}
 use Rattle.gr_terms.specs.declared.Sym.{Sym}
 use Rattle.mg_syntax.specs.declared.item.Class.{Class}
 use Rattle.mg_syntax.specs.declared.item.Item.{Item}
@@ -115,12 +116,6 @@ once_dec xs x = by (occurrences xs x) refl
     by (suc zero) e = inl (once xs x e)
     by (suc (suc n)) e = inr (λ s. let h = counted_once xs x s in omega (arith, h, e))
 
-below_or_at : (j i : ℕ) → j < suc i → (j < i) ⊎ (j ≡ i)
-below_or_at zero zero h = inr refl
-below_or_at zero (suc i) h = inl (omega arith)
-below_or_at (suc j) zero h = absurd (omega (arith, h))
-below_or_at (suc j) (suc i) h = elim (below_or_at j i (omega (arith, h))) [ inl l ↦ inl (omega (arith, l)) | inr e ↦ inr (ap suc e) ]
-
 -- the rules on variables hold or fail
 module _ (m : List Item) (k : Class) where
   sees_dec : (x : Sym) → Decided (Sees m k x)
@@ -170,7 +165,7 @@ module _ (next : Sym → List Sym) (goal : Sym) where
 
   far_next : (i : ℕ) (c : Sym) → IsFar i c → (LeadsTo next goal i c → ⊥) → IsFar (suc i) c
   far_next i c far none j below way =
-      elim (below_or_at j i below) [
+      elim (before_or_at j i below) [
         | inl l ↦ far j l way
         | inr e ↦ none (subst (λ z. LeadsTo next goal z c) e way)
       ]
@@ -305,7 +300,7 @@ module _ (next : Sym → List Sym) (goal : Sym) where
       by : Decided ((i : ℕ) × (i < n) × LeadsTo next goal (suc i) goal) → Decided (LeadsTo next goal (suc n) goal) → Decided ((i : ℕ) × (i < suc n) × LeadsTo next goal (suc i) goal)
       by (inl (i, l, way)) d = inl (i, omega (arith, l), way)
       by (inr none) (inl way) = inl (n, omega arith, way)
-      by (inr none) (inr last) = inr (λ h. elim (below_or_at h.0 n h.1) [ inl l ↦ none (h.0, l, h.2) | inr e ↦ last (subst (λ z. LeadsTo next goal (suc z) goal) e h.2) ])
+      by (inr none) (inr last) = inr (λ h. elim (before_or_at h.0 n h.1) [ inl l ↦ none (h.0, l, h.2) | inr e ↦ last (subst (λ z. LeadsTo next goal (suc z) goal) e h.2) ])
 
 -- a class leads back to itself by no more mentions than there are items, or not at all
 no_more : (m : List Item) (c : Sym) (n : ℕ) → LeadsTo (mentioned m) c (suc n) c → (i : ℕ) × (i < suc (length m)) × LeadsTo (mentioned m) c (suc i) c

@@ -8,6 +8,7 @@ use Rattle.std.proofs.lemmas.Option.{none-some, same_Some, slice_get-get_or, sli
 use Rattle.gr_base.specs.Lists.{IsAmong}
 use Rattle.gr_base.proofs.ListLemmas.{IsAmong-append_left, IsAmong-append_right, IsAmong-append, IsAmong-one_more, IsAmong-new_one}
 use Rattle.gr_terms.specs.declared.Sym.{Sym}
+use Rattle.gr_terms.proofs.ViewLemmas.{same_sym}
 use Rattle.mg_syntax.specs.declared.item.Class.{Class}
 use Rattle.mg_syntax.specs.declared.item.Item.{Item}
 use Rattle.mg_syntax.specs.declared.item.Item.TheVariants as item
@@ -15,7 +16,7 @@ use Rattle.mg_scope.specs.Classes.{class_of, mentions_of, mentioned}
 use Rattle.mg_scope.specs.Faults.{StandsIn}
 use Rattle.mg_scope.specs.Tables.{Cells, value_at, IsBlank, Puts, AreSame}
 use Rattle.mg_scope.specs.Orders.{Rows, row_of, callers_of, AreRows, AddsCaller, AddsToEach, AddsItem, AreCallersIn, AreCallers}
-use Rattle.mg_scope.proofs.TableLemmas.{Compared, same_name, other_name, compared, same_number, other_number, same_sym, puts_here, puts_there}
+use Rattle.mg_scope.proofs.TableLemmas.{Compared, same_name, other_name, compared, same_number, other_number, puts_here, puts_there}
 use Rattle.mg_scope.proofs.ClassLemmas.{class_same, class_of-stands}
 
 pub callers_of-is : (r : Rows) (x : Sym) → callers_of r x ≡ row_of r (value_at r.0 x)

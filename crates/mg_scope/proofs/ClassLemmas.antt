@@ -7,6 +7,7 @@ use Rattle.std.proofs.lemmas.Option.{none-some, same_Some, slice_get-map, slice_
 use Rattle.gr_base.specs.Lists.{IsAmong, Each, gathered}
 use Rattle.gr_base.proofs.ListLemmas.{IsAmong-append_left, IsAmong-append_right, IsAmong-append}
 use Rattle.gr_terms.specs.declared.Sym.{Sym}
+use Rattle.gr_terms.proofs.ViewLemmas.{same_sym}
 use Rattle.mg_syntax.specs.declared.item.Class.{Class}
 use Rattle.mg_syntax.specs.declared.item.Item.{Item}
 use Rattle.mg_syntax.specs.declared.item.Item.TheVariants as item
@@ -15,7 +16,7 @@ use Rattle.mg_scope.specs.Classes.{class_of, mentions, uses_of, mentions_of, men
 use Rattle.mg_scope.specs.Faults.{StandsIn, IsThere}
 use Rattle.mg_scope.specs.Directories.{outline_of, IsFirstPlace, IsPlace, ArePlaces, PutsFirst}
 use Rattle.mg_scope.specs.Tables.{Cells, value_at, Puts}
-use Rattle.mg_scope.proofs.TableLemmas.{same_number, other_number, same_sym}
+use Rattle.mg_scope.proofs.TableLemmas.{same_number, other_number}
 
 -- one item is one class
 pub class_same : (j k : Class) → item.Class j ≡ item.Class k → j ≡ k

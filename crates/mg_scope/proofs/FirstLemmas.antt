@@ -1,31 +1,22 @@
 -- Each name of a list once, by first place.
-use Rattle.std.specs.Prelude.{◌≡◌, ℕ, zero, suc, ◌+◌, ◌<◌, List, [], ◌∷◌, ◌++◌, length, take, Bool, true, false, Option, Some, None, ◌==◌, if◌then◌else◌, not, ◌⊎◌, ◌↔◌, get_or}
+use Rattle.std.specs.Prelude.{◌≡◌, ℕ, zero, suc, ◌+◌, ◌<◌, List, [], ◌∷◌, ◌++◌, length, take, Option, Some, None, ◌==◌, if◌then◌else◌, not, ◌⊎◌, ◌↔◌, get_or}
 use Rattle.std.specs.List.{filter}
 use Rattle.std.proofs.Common.{inl, inr, refl, ap, sym, ◌∙◌, subst, arith, append_assoc}
 use Rattle.std.proofs.lemmas.Option.{none-some}
+use Rattle.std.proofs.lemmas.List.Elements.{filter-append}
+use Rattle.std.proofs.lemmas.List.{append-nil}
 use Rattle.gr_base.specs.Lists.{IsAmong, gathered}
 use Rattle.gr_base.proofs.ListLemmas.{IsAmong-append_left, IsAmong-append_right, IsAmong-append, IsAmong-one_more}
 use Rattle.gr_terms.specs.declared.Sym.{Sym}
+use Rattle.gr_terms.proofs.ViewLemmas.{same_sym}
 use Rattle.mg_syntax.specs.declared.item.Item.{Item}
 use Rattle.mg_scope.specs.Classes.{firsts, valuation}
 use Rattle.mg_scope.specs.Tables.{Cells, value_at, IsBlank, Puts}
 use Rattle.mg_scope.specs.Orders.{IsSet, AreFirsts}
-use Rattle.mg_scope.proofs.TableLemmas.{Compared, same_name, other_name, compared, same_number, other_number, same_sym, puts_here, puts_there}
+use Rattle.mg_scope.proofs.TableLemmas.{Compared, same_name, other_name, compared, same_number, other_number, puts_here, puts_there}
 use Rattle.mg_scope.proofs.GatherLemmas.{gathered-more}
 
-filter-append : (p : Sym → Bool) (xs ys : List Sym) → filter p (xs ++ ys) ≡ filter p xs ++ filter p ys
-filter-append p [] ys = refl
-filter-append p (x ∷ xs) ys = by (p x) (filter-append p xs ys)
-  where
-    by : (t : Bool) → filter p (xs ++ ys) ≡ filter p xs ++ filter p ys → (if t then x ∷ filter p (xs ++ ys) else filter p (xs ++ ys)) ≡ (if t then x ∷ filter p xs else filter p xs) ++ filter p ys
-    by true e = ap (λ z. x ∷ z) e
-    by false e = e
-
-nothing_more : (xs : List Sym) → xs ++ [] ≡ xs
-nothing_more [] = refl
-nothing_more (x ∷ xs) = ap (λ z. x ∷ z) (nothing_more xs)
-
-among_or_not : (xs : List Sym) (x : Sym) → IsAmong xs x ⊎ (IsAmong xs x → ⊥)
+pub among_or_not : (xs : List Sym) (x : Sym) → IsAmong xs x ⊎ (IsAmong xs x → ⊥)
 among_or_not [] x = inr (λ i. i)
 among_or_not (y ∷ ys) x = by (compared x y) (among_or_not ys x)
   where
@@ -41,14 +32,14 @@ drops y x e = ap (λ b. if not b then x ∷ [] else []) (same_number x.0 y.0 (ap
 keeps : (y x : Sym) → (x ≡ y → ⊥) → filter (λ (z : Sym). not (z.0 == y.0)) (x ∷ []) ≡ x ∷ []
 keeps y x o = ap (λ b. if not b then x ∷ [] else []) (other_number x.0 y.0 (λ e. o (same_sym x y e)))
 
-firsts_new : (xs : List Sym) (x : Sym) → (IsAmong xs x → ⊥) → firsts (xs ++ x ∷ []) ≡ firsts xs ++ x ∷ []
+pub firsts_new : (xs : List Sym) (x : Sym) → (IsAmong xs x → ⊥) → firsts (xs ++ x ∷ []) ≡ firsts xs ++ x ∷ []
 firsts_new [] x new = refl
 firsts_new (y ∷ ys) x new =
     ap (λ z. y ∷ filter (λ (z : Sym). not (z.0 == y.0)) z) (firsts_new ys x (λ i. new (inr i)))
     ∙ ap (λ z. y ∷ z) (filter-append (λ (z : Sym). not (z.0 == y.0)) (firsts ys) (x ∷ [])
     ∙ ap (λ z. filter (λ (z : Sym). not (z.0 == y.0)) (firsts ys) ++ z) (keeps y x (λ e. new (inl e))))
 
-firsts_known : (xs : List Sym) (x : Sym) → IsAmong xs x → firsts (xs ++ x ∷ []) ≡ firsts xs
+pub firsts_known : (xs : List Sym) (x : Sym) → IsAmong xs x → firsts (xs ++ x ∷ []) ≡ firsts xs
 firsts_known [] x i = absurd i
 firsts_known (y ∷ ys) x i = by (among_or_not ys x) i (firsts_known ys x)
   where
@@ -57,7 +48,7 @@ firsts_known (y ∷ ys) x i = by (among_or_not ys x) i (firsts_known ys x)
     by (inr n) (inl e) more =
         ap (λ z. y ∷ filter (λ (z : Sym). not (z.0 == y.0)) z) (firsts_new ys x n)
         ∙ ap (λ z. y ∷ z) (filter-append (λ (z : Sym). not (z.0 == y.0)) (firsts ys) (x ∷ [])
-        ∙ ap (λ z. filter (λ (z : Sym). not (z.0 == y.0)) (firsts ys) ++ z) (drops y x e) ∙ nothing_more (filter (λ (z : Sym). not (z.0 == y.0)) (firsts ys)))
+        ∙ ap (λ z. filter (λ (z : Sym). not (z.0 == y.0)) (firsts ys) ++ z) (drops y x e) ∙ append-nil (filter (λ (z : Sym). not (z.0 == y.0)) (firsts ys)))
     by (inr n) (inr j) more = absurd (n j)
 
 -- one more name
@@ -97,7 +88,7 @@ firsts_none met names blank is = ((λ x. ((λ h. none-some h.0 (sym (blank x) �
 
 -- nothing more is valued
 pub firsts_same : (met : Cells) (names seen more : List Sym) → more ≡ [] → AreFirsts met names seen → AreFirsts met names (seen ++ more)
-firsts_same met names seen more e known = subst (λ z. AreFirsts met names z) (sym (ap (λ z. seen ++ z) e ∙ nothing_more seen)) known
+firsts_same met names seen more e known = subst (λ z. AreFirsts met names z) (sym (ap (λ z. seen ++ z) e ∙ append-nil seen)) known
 
 pub firsts_next : (met : Cells) (names : List Sym) (items : List Item) (i : ℕ) (d : Item) → i < length items → AreFirsts met names (gathered valuation (take i items) ++ valuation (get_or items i d))
     → AreFirsts met names (gathered valuation (take (i + 1) items))

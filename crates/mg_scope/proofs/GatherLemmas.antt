@@ -1,12 +1,8 @@
 -- A list that grows by what f gives of each element of another list, one after another.
 use Rattle.std.specs.Prelude.{◌≡◌, ℕ, zero, suc, ◌+◌, ◌<◌, ◌≤◌, List, [], ◌∷◌, ◌++◌, length, take, get_or}
-use Rattle.std.proofs.Common.{refl, ap, sym, ◌∙◌, subst, arith, append_assoc}
+use Rattle.std.proofs.Common.{ap, sym, ◌∙◌, subst, arith, append_assoc}
 use Rattle.std.proofs.lemmas.List.{append-nil, take_all}
 use Rattle.gr_base.specs.Lists.{gathered}
-
-pub gathered-append : {A B : Type 0} (f : A → List B) (xs ys : List A) → gathered f (xs ++ ys) ≡ gathered f xs ++ gathered f ys
-gathered-append f [] ys = refl
-gathered-append f (x ∷ xs) ys = ap (λ z. f x ++ z) (gathered-append f xs ys) ∙ sym (append_assoc (f x) (gathered f xs) (gathered f ys))
 
 pub gathered-more : {A B : Type 0} (f : A → List B) (xs : List A) (i : ℕ) (d : A) → i < length xs → gathered f (take (suc i) xs) ≡ gathered f (take i xs) ++ f (get_or xs i d)
 gathered-more f [] i d within = absurd (omega arith)

@@ -1,7 +1,6 @@
 -- Loops that test each element of a list.
-use Rattle.std.specs.Prelude.{◌≡◌, ℕ, zero, suc, ◌+◌, ◌<◌, ◌≤◌, List, [], ◌∷◌, ◌++◌, length, take, drop, get_or, Result, Ok, Err, OnOk, OnErr, IsErr}
+use Rattle.std.specs.Prelude.{◌≡◌, ℕ, zero, suc, ◌+◌, ◌<◌, List, [], ◌∷◌, ◌++◌, length, take, drop, get_or, Result, Ok, Err, OnOk, OnErr, IsErr}
 use Rattle.std.proofs.Common.{refl, ap, sym, ◌∙◌, subst, arith}
-use Rattle.std.proofs.lemmas.List.{take_all}
 use Rattle.std.proofs.lemmas.Bool.{false≢true}
 use Rattle.gr_base.specs.Lists.{IsAmong, Each}
 use Rattle.mg_scope.specs.Faults.{IsFirstWithout}
@@ -14,9 +13,6 @@ Each-more {A} P xs i d within each here = let one : i + 1 ≡ suc i = omega arit
     more [] i w e h = absurd (omega arith)
     more (x ∷ xs) zero w e h = (h, tt)
     more (x ∷ xs) (suc i) w e h = (e.0, more xs i (omega arith) e.1 h)
-
-pub Each-all : {A : Type 0} (P : A → Type 0) (xs : List A) (i : ℕ) → length xs ≤ i → Each P (take i xs) → Each P xs
-Each-all P xs i all each = subst (Each P) (take_all i xs all) each
 
 -- a list is what stands before a place, what stands there, and what stands behind it
 pub split_at : {A : Type 0} (xs : List A) (i : ℕ) (d : A) → i < length xs → xs ≡ take i xs ++ get_or xs i d ∷ drop (suc i) xs

@@ -1,15 +1,17 @@
 -- Sets of names by their numbers, in order.
-use Rattle.std.specs.Prelude.{◌≡◌, ℕ, zero, suc, ◌<◌, ◌≤◌, List, [], ◌∷◌, map, length, take, get_or, ◌+◌, Option, Some, Result, Ok, Err, is_ok, ◌⊎◌, ◌↔◌, Bool, true, false, ◌++◌, IsTrue, IsPermutation, IsSorted, Contains, slice_get}
+use Rattle.std.specs.Prelude.{◌≡◌, ℕ, zero, suc, ◌<◌, ◌≤◌, List, [], ◌∷◌, map, length, take, get_or, ◌+◌, Option, Some, Result, Ok, Err, is_ok, ◌↔◌, Bool, true, false, ◌++◌, IsTrue, IsPermutation, IsSorted, slice_get}
 use Rattle.std.specs.List.Sorted.{IsBinarySearchResult}
 use Rattle.std.specs.Ordering.{nat_cmp}
 use Rattle.std.proofs.Common.{inl, inr, refl, ap, sym, ◌∙◌, subst, arith, append_assoc}
-use Rattle.std.proofs.lemmas.Bool.{false≢true}
-use Rattle.std.proofs.lemmas.List.{take_more, take_all}
+use Rattle.std.proofs.lemmas.Bool.{false≢true, cases_lt}
+use Rattle.std.proofs.lemmas.List.{take_more, take_all, length-map}
 use Rattle.std.proofs.lemmas.Option.{none-some, same_Some, slice_get-get_or, slice_get_within}
 use Rattle.std.proofs.lemmas.List.Sorted.{Contains-permutation, IsPermutation-sym, IsNonDecreasingBy-from_sort, searched}
 use Rattle.gr_base.specs.Lists.{IsAmong}
 use Rattle.gr_base.proofs.ListLemmas.{IsAmong-map, IsAmong-map_from, IsAmong-get_or, slice_get-IsAmong}
+use Rattle.gr_base.proofs.OrderedPairs.{Contains-IsAmong, IsAmong-Contains}
 use Rattle.gr_terms.specs.declared.Sym.{Sym}
+use Rattle.gr_terms.proofs.ViewLemmas.{same_sym}
 use Rattle.mg_scope.specs.declared.uses.Use.{Use}
 use Rattle.mg_syntax.specs.declared.item.Class.{Class}
 use Rattle.mg_syntax.specs.declared.item.Item.{Item}
@@ -19,28 +21,18 @@ use Rattle.mg_scope.specs.Classes.{exports_in, exports_of}
 use Rattle.mg_scope.specs.Faults.{StandsIn}
 use Rattle.mg_scope.specs.Names.{number_of, Rise, AreNumbers}
 use Rattle.mg_scope.specs.Directories.{outline_of, outlined, exported, IsOutline, AreExports, AreOutlines, IsFirstPlace}
-use Rattle.mg_scope.proofs.TableLemmas.{same_sym}
 use Rattle.mg_scope.proofs.ClassLemmas.{place_found, class_of-none}
-
-contains_among : {A : Type 0} (xs : List A) (x : A) → Contains xs x → IsAmong xs x
-contains_among xs x (k, within, e) = subst (IsAmong xs) e (IsAmong-get_or xs k x within)
-
-among_contains : {A : Type 0} (xs : List A) (x : A) → IsAmong xs x → Contains xs x
-among_contains xs x i =
-    let p = slice_get-IsAmong xs x i in
-    let within = slice_get_within xs p.0 x p.1 in
-    (p.0, within, same_Some (get_or xs p.0 x) x (sym (slice_get-get_or xs p.0 x within) ∙ p.1))
 
 -- in another order the numbers are those of the same names
 pub sorted_numbers : (names : List Sym) (given numbers : List ℕ) → given ≡ map number_of names → IsPermutation given numbers → AreNumbers numbers names
 sorted_numbers names given numbers is sorted x = (
   (λ i.
-      let among = contains_among given x.0 (Contains-permutation numbers given x.0 (IsPermutation-sym given numbers sorted) (among_contains numbers x.0 i)) in
+      let among = IsAmong-Contains given x.0 (Contains-permutation numbers given x.0 (IsPermutation-sym given numbers sorted) (Contains-IsAmong numbers x.0 i)) in
       let p = IsAmong-map_from number_of names x.0 (subst (λ z. IsAmong z x.0) is among) in
       subst (IsAmong names) (sym (same_sym x p.0 p.2)) p.1),
   (λ i.
       let among : IsAmong given x.0 = subst (λ z. IsAmong z x.0) (sym is) (IsAmong-map number_of names x i) in
-      contains_among numbers x.0 (Contains-permutation given numbers x.0 sorted (among_contains given x.0 among))),
+      IsAmong-Contains numbers x.0 (Contains-permutation given numbers x.0 sorted (Contains-IsAmong given x.0 among))),
 )
 
 pub sorted_rise : (numbers : List ℕ) → IsSorted nat_cmp numbers → Rise numbers
@@ -53,18 +45,13 @@ has_number numbers x (Ok i) h rise =
     ((λ _. subst (IsAmong numbers) s.1 (IsAmong-get_or numbers i 0 s.0)), (λ _. refl))
 has_number numbers x (Err i) h rise = ((λ e. absurd (false≢true e)), (λ among. absurd (none among)))
   where
-    two : (a b : ℕ) → (a < b) ⊎ (b ≤ a)
-    two a zero = inr (omega arith)
-    two zero (suc b) = inl (omega arith)
-    two (suc a) (suc b) = elim (two a b) [ inl l ↦ inl (omega (arith, l)) | inr l ↦ inr (omega (arith, l)) ]
-
     none : IsAmong numbers x → ⊥
     none among =
         let s = searched numbers x (Err i) h rise in
         let p = slice_get-IsAmong numbers x among in
         let within = slice_get_within numbers p.0 x p.1 in
         let is : get_or numbers p.0 0 ≡ x = same_Some (get_or numbers p.0 0) x (sym (slice_get-get_or numbers p.0 0 within) ∙ p.1) in
-        elim (two p.0 i) [ inl l ↦ (let e = s.1 p.0 l in omega (arith, e, is)) | inr l ↦ (let e = s.2 p.0 l within in omega (arith, e, is)) ]
+        elim (cases_lt p.0 i) [ inl l ↦ (let e = s.1 p.0 l in omega (arith, e, is)) | inr l ↦ (let e = s.2 p.0 l within in omega (arith, e, is)) ]
 
 pub has_by_halves : (numbers given own : List ℕ) (x : ℕ) (r : Result ℕ ℕ) (b : Bool) → given ≡ numbers → numbers ≡ own → IsBinarySearchResult (λ y. nat_cmp y x) given r → Rise numbers → b ≡ is_ok r
     → IsTrue b ↔ IsAmong own x
@@ -95,17 +82,13 @@ exports_more (k ∷ m) (q ∷ outlines) i o same known more zero j p at_m at_o =
 exports_more (k ∷ m) (q ∷ outlines) i o same known more (suc n) j p at_m at_o =
     exports_more m outlines i o (omega (arith, same)) (λ n j p a b. known (suc n) j p a b) more n j p at_m at_o
 
-length_map : {A B : Type 0} (f : A → B) (xs : List A) → length (map f xs) ≡ length xs
-length_map f [] = refl
-length_map f (x ∷ xs) = ap suc (length_map f xs)
-
 pub outlines_none : AreOutlines [] []
 outlines_none = (refl, λ n i o at_m at_o. absurd (none-some i at_m))
 
 pub outlines_more : (m : List Item) (outlines : List Outline) (i : Item) (o : Outline) → AreOutlines m outlines → IsOutline i o → AreOutlines (m ++ i ∷ []) (outlines ++ o ∷ [])
 outlines_more m outlines i o (same, known) (is, more) = (
   map_push outlined outlines o ∙ ap (λ z. z ++ outlined o ∷ []) same ∙ ap (λ z. map outline_of m ++ z ∷ []) is ∙ sym (map_push outline_of m i),
-  exports_more m outlines i o (sym (length_map outlined outlines) ∙ ap length same ∙ length_map outline_of m) known more,
+  exports_more m outlines i o (sym (length-map outlines outlined) ∙ ap length same ∙ length-map m outline_of) known more,
 )
 
 pub outlines_next : (m : List Item) (i : ℕ) (x : Item) (outlines new : List Outline) (o : Outline) → i < length m → x ≡ get_or m i x → AreOutlines (take i m) outlines → IsOutline x o

@@ -5,6 +5,7 @@ use Rattle.std.proofs.lemmas.Bool.{eq-eqb, eqb-true}
 use Rattle.std.proofs.lemmas.List.{get_or_past, get_or-set_same, get_or-set_other, get_or_default, get_or-replicate, get_or_append_left}
 use Rattle.std.proofs.Math.Seq.{get_or-append_right}
 use Rattle.gr_terms.specs.declared.Sym.{Sym}
+use Rattle.gr_terms.proofs.ViewLemmas.{same_sym}
 use Rattle.mg_scope.specs.declared.table.Cell.{Cell}
 use Rattle.mg_scope.specs.Tables.{Cells, no_cell, cell_value, value_at, IsTable, IsBlank, Puts, AreSame}
 
@@ -101,9 +102,6 @@ past_set old new r place v same past k = each new place k (past_same old new r s
 pub data Compared (x y : Sym) : Type 0 where
   same_name : x ≡ y → Compared x y
   other_name : (x ≡ y → ⊥) → Compared x y
-
-pub same_sym : (x y : Sym) → x.0 ≡ y.0 → x ≡ y
-same_sym x y e = ap (λ (n : ℕ). record { 0 = n }) e
 
 pub compared : (x y : Sym) → Compared x y
 compared x y = by (x.0 == y.0) refl

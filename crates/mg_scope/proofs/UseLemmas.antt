@@ -1,8 +1,9 @@
 -- Uses of lists of pairs, of groups and of kids, as loops gather them.
-use Rattle.std.specs.Prelude.{◌≡◌, ℕ, List, [], ◌∷◌, ◌++◌, map, Bool, true, false, not, if◌then◌else◌}
+use Rattle.std.specs.Prelude.{◌≡◌, ℕ, List, [], ◌∷◌, ◌++◌, Bool, true, false, not, if◌then◌else◌}
 use Rattle.std.specs.List.{filter}
 use Rattle.std.proofs.Common.{refl, ap, sym, ◌∙◌, append_assoc}
-use Rattle.gr_base.specs.Lists.{joined, gathered}
+use Rattle.gr_base.specs.Lists.{gathered}
+use Rattle.gr_base.proofs.Gathering.{gathered-same, joined-map, joined-twice}
 use Rattle.gr_terms.specs.declared.Sym.{Sym}
 use Rattle.mg_syntax.specs.declared.body.Side.{Side}
 use Rattle.mg_syntax.specs.declared.block.Kid.{Kid, out-Kid, fold-Kid, fold_out-Kid}
@@ -30,19 +31,6 @@ categories (p ∷ ps) = by (is_category p) (categories ps)
         → (if t then side_uses p.1 else []) ++ gathered category_uses ps ≡ bag_uses (if t then p ∷ categories_of ps else categories_of ps)
     by true e = ap (λ z. side_uses p.1 ++ z) e
     by false e = e
-
--- lists of f of each element, one after another
-pub joined-map : {A B : Type 0} (f : A → List B) (xs : List A) → joined (map f xs) ≡ gathered f xs
-joined-map f [] = refl
-joined-map f (x ∷ xs) = ap (λ z. f x ++ z) (joined-map f xs)
-
-pub joined-twice : {A B : Type 0} (f : A → List B) (xss : List (List A)) → joined (map joined (map (map f) xss)) ≡ gathered (gathered f) xss
-joined-twice f [] = refl
-joined-twice f (xs ∷ xss) = ap (λ z. z ++ joined (map joined (map (map f) xss))) (joined-map f xs) ∙ ap (λ z. gathered f xs ++ z) (joined-twice f xss)
-
-pub gathered-same : {A B : Type 0} (f g : A → List B) → ((x : A) → f x ≡ g x) → (xs : List A) → gathered f xs ≡ gathered g xs
-gathered-same f g same [] = refl
-gathered-same f g same (x ∷ xs) = ap (λ z. z ++ gathered f xs) (same x) ∙ ap (λ z. g x ++ z) (gathered-same f g same xs)
 
 -- the uses of a kid are those of its block
 abbrev pub kid_uses : Kid → List Use

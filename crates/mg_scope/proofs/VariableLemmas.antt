@@ -6,7 +6,9 @@ use Rattle.std.proofs.lemmas.List.{take_more, take_all}
 use Rattle.std.proofs.lemmas.Option.{none-some, same_Some, slice_get-get_or, slice_get_within}
 use Rattle.gr_base.specs.Lists.{IsAmong, Each, gathered}
 use Rattle.gr_base.proofs.ListLemmas.{IsAmong-append_left, IsAmong-append_right, IsAmong-append, IsAmong-one_more, IsAmong-new_one, IsAmong-map, IsAmong-map_from, IsAmong-slice_get, IsAmong-get_or, slice_get-append_left, Each-at, Each-members}
+use Rattle.gr_base.proofs.Gathering.{gathered-append}
 use Rattle.gr_terms.specs.declared.Sym.{Sym}
+use Rattle.gr_terms.proofs.ViewLemmas.{same_sym}
 use Rattle.mg_syntax.specs.declared.item.Class.{Class}
 use Rattle.mg_syntax.specs.declared.item.Item.{Item}
 use Rattle.mg_scope.specs.declared.uses.Use.{Use}
@@ -17,9 +19,9 @@ use Rattle.mg_scope.specs.Faults.{StandsOnce, IsRightUse, IsRightExport, IsRight
 use Rattle.mg_scope.specs.Tables.{Cells, value_at, IsBlank, Puts}
 use Rattle.mg_scope.specs.Orders.{IsSet}
 use Rattle.mg_scope.specs.Variables.{bound_variables, occurrences, tally, Marks, MarksAsked, HasImported, asked_in, AreStatements, AreCalls, AreVariables, IsExported, variable_in, IsFirstWrongUse}
-use Rattle.mg_scope.proofs.TableLemmas.{Compared, same_name, other_name, compared, same_number, other_number, same_sym, puts_here, puts_there}
+use Rattle.mg_scope.proofs.TableLemmas.{Compared, same_name, other_name, compared, same_number, other_number, puts_here, puts_there}
 use Rattle.mg_scope.proofs.ClassLemmas.{slice_get-at}
-use Rattle.mg_scope.proofs.GatherLemmas.{gathered-append, gathered-more}
+use Rattle.mg_scope.proofs.GatherLemmas.{gathered-more}
 use Rattle.mg_scope.proofs.LoopLemmas.{first_without}
 
 -- marking no names, one name, and more of them

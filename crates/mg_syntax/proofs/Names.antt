@@ -69,10 +69,6 @@ pub statement_names-roll : (layer : Statement-F Statement) (s : Statement) → r
 unfolding statement_names
 statement_names-roll layer s is = ap statement_names (sym is) ∙ (fold-roll-Statement (List Sym) statement_step layer ∙ layer_joined layer)
 
-pub Each-by : {A : Type 0} (P R : A → Type 0) → ((x : A) → P x → R x) → (xs : List A) → Each P xs → Each R xs
-Each-by P R f [] h = tt
-Each-by P R f (x ∷ xs) h = (f x h.0, Each-by P R f xs h.1)
-
 -- what holds of all that is gathered holds of what each gives
 module _ {A B : Type 0} (P : B → Type 0) (f : A → List B) where
   pub Each-gathered : (xs : List A) → Each (λ x. Each P (f x)) xs → Each P (gathered f xs)

@@ -7,7 +7,8 @@ use Rattle.std.proofs.lemmas.List.{take_all, length-drop}
 use Rattle.gr_base.proofs.ListLemmas.{same_head, same_tail}
 use Rattle.gr_io.specs.Outside.{IsFetched, appended}
 use Rattle.gr_symbols.specs.Numbers.{first_texts}
-use Rattle.rl_words.specs.Requests.{AsksCompile, IsFileWord, IsModelsBudget, Splits, nothing, a_file, an_option, models_word}
+use Rattle.rl_words.specs.Requests.{AsksCompile, IsModelsBudget, Splits, nothing, a_file, an_option, models_word}
+use Rattle.rl_words.proofs.ReadLemmas.{no_option_file}
 use Rattle.rl_refusals.specs.declared.refusal.Refusal.{Refusal}
 use Rattle.rl_refusals.specs.Lines.{IsRefusalLine}
 use Rattle.gr_base.specs.declared.Memory.{Memory}
@@ -23,9 +24,6 @@ use Rattle.rl_top.proofs.Laws.{NotShortened}
 -- words are split in one way
 first_word : (ws vs : List (List ℕ)) (w v : List ℕ) → w ∷ ws ≡ v ∷ vs → (w ≡ v) × (ws ≡ vs)
 first_word ws vs w v e = (same_head w v ws vs e, same_tail w v ws vs e)
-
-no_option_file : (w : List ℕ) → w ≡ models_word → IsFileWord w → ⊥
-no_option_file w is file = subst (λ z. IsFileWord z) is file refl
 
 record SameSplit (files others : List (List ℕ)) (options more : List (List ℕ × List ℕ)) : Type 0 where
   files_same : files ≡ others

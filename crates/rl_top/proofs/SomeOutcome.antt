@@ -25,6 +25,7 @@ use Rattle.mg_scope.specs.declared.refusal.ScopeRefusal.{ScopeRefusal}
 use Rattle.mg_scope.specs.declared.refusal.ScopeRefusal.TheVariants as scope
 use Rattle.mg_expand.specs.Walks.{Walk}
 use Rattle.td_canon.specs.CanonicalTexts.{text_in}
+use Rattle.td_canon.proofs.OrderLemmas.{text_named}
 use Rattle.mg_compile.specs.Compiled.{IsFaultOf, IsClassFault, IsRightList}
 use Rattle.mg_compile.specs.declared.refusal.CompileRefusal.{CompileRefusal}
 use Rattle.mg_compile.specs.declared.refusal.CompileRefusal.TheVariants as compiling
@@ -41,7 +42,7 @@ use Rattle.rl_top.specs.declared.status.Status.TheVariants as status
 use Rattle.rl_top.proofs.FaultNames.{valued_has, scope_has}
 use Rattle.rl_top.proofs.Laws.{TextsApart}
 use Rattle.rl_top.proofs.OneOutcome.{texts_apart}
-use Rattle.rl_top.proofs.Stopping.{names_text, read_refusal, read_names, all_named, valued_there, compiling_names}
+use Rattle.rl_top.proofs.Stopping.{read_refusal, read_names, all_named, valued_there, compiling_names}
 
 -- ---- lines
 
@@ -50,11 +51,11 @@ module _ (texts : List (List ℕ)) where
   ref_of of name = record { of = of; name = name }
 
   some_variable : (of : Option Sym) (name : Sym) → HasVariableText texts (ref_of of name) → (bytes : List ℕ) × IsVariableText texts (ref_of of name) bytes
-  some_variable None name h = let y = text_in texts name.0 in (63 ∷ y, (y, names_text texts name.0 h, refl))
+  some_variable None name h = let y = text_in texts name.0 in (63 ∷ y, (y, text_named texts name.0 h, refl))
   some_variable (Some x) name h =
       let u = text_in texts x.0 in
       let y = text_in texts name.0 in
-      (63 ∷ u ++ codes ".?" ++ y, (u, y, names_text texts x.0 h.0, names_text texts name.0 h.1, refl))
+      (63 ∷ u ++ codes ".?" ++ y, (u, y, text_named texts x.0 h.0, text_named texts name.0 h.1, refl))
 
   some_spelling : (t : List ℕ) → (s : List ℕ) × Spells s t
   some_spelling t = elim (IsBareWord-settled t) [ inl h ↦ (t, inl (h, refl)) | inr n ↦ (quoted t, inr (n, refl)) ]
@@ -62,7 +63,7 @@ module _ (texts : List (List ℕ)) where
   some_part : (p : Part) → HasPartText texts p → (bytes : List ℕ) × IsPartText texts p bytes
   some_part (number n) h = (decimal n, refl)
   some_part (word w) h = (w, refl)
-  some_part (a_name a) h = let s = some_spelling (text_in texts a) in (s.0, (text_in texts a, names_text texts a h, s.1))
+  some_part (a_name a) h = let s = some_spelling (text_in texts a) in (s.0, (text_in texts a, text_named texts a h, s.1))
   some_part (a_variable r) h = some_variable r.of r.name h
 
   some_parts : (ps : List Part) → Each (HasPartText texts) ps → (ts : List (List ℕ)) × AllZip (IsPartText texts) ps ts
@@ -157,7 +158,7 @@ module _ (apart : TextsApart) (some_answer : SomeAnswer) (some_table : SomeTable
         by_class (inr (none, list)) (inl r) = inl (record { before = c ∷ r.before; class = r.class; after = r.after; split = ap (λ l. c ∷ l) r.split; faultless = (none, r.faultless); fault = r.fault; named = r.named })
         by_class (inr (none, (list, cut, right))) (inr r) =
             let t : ClassText = record { name = text_in texts c.0; trees = list; cut = cut } in
-            inr ((none, r.0), (t ∷ r.1.0, (record { name = names_text texts c.0 has.0; list = right }, r.1.1)))
+            inr ((none, r.0), (t ∷ r.1.0, (record { name = text_named texts c.0 has.0; list = right }, r.1.1)))
 
     of_classes : FaultIn (valued_classes m) ⊎ TextsFor (valued_classes m) → HasOutcome
     of_classes (inl f) =

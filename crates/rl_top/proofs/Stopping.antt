@@ -1,5 +1,5 @@
 -- What is known where compiling a file stops, and where it goes on.
-use Rattle.std.specs.Prelude.{◌≡◌, ℕ, zero, suc, ◌+◌, ◌<◌, ◌≤◌, List, [], ◌∷◌, ◌++◌, map, take, drop, length, Some, Bool, true, false, Result, Ok, Err, IfOk, IfErr, ◌⊎◌, ⊤, slice_get, get_or, refl}
+use Rattle.std.specs.Prelude.{◌≡◌, ℕ, zero, suc, ◌+◌, ◌<◌, ◌≤◌, List, [], ◌∷◌, ◌++◌, map, take, drop, length, Some, Bool, true, false, ◌⊎◌, ⊤, slice_get, get_or, refl}
 use Rattle.std.specs.List.{AllZip}
 use Rattle.std.proofs.Common.{sym, ap, subst, ◌∙◌, arith, inl, inr}
 use Rattle.std.proofs.lemmas.List.{take_all, take-append-drop}
@@ -28,6 +28,7 @@ use Rattle.mg_expand.specs.Walks.{Walk}
 use Rattle.td_canon.specs.CanonicalTexts.{text_in}
 use Rattle.td_canon.specs.TreeSets.{texts_of}
 use Rattle.td_canon.specs.declared.tree_set.ClassTrees.{ClassTrees}
+use Rattle.td_canon.proofs.OrderLemmas.{text_named}
 use Rattle.tg_text.specs.GrammarText.{ClassText, class_text_of}
 use Rattle.rl_refusals.specs.declared.refusal.Refusal.{Refusal}
 use Rattle.rl_refusals.specs.declared.refusal.Refusal.TheVariants as refusal
@@ -43,15 +44,6 @@ use Rattle.rl_top.proofs.FaultNames.{valued_each, valued_has, scope_has}
 use Rattle.rl_top.specs.declared.status.Status.TheVariants as status
 use Rattle.rl_top.proofs.Laws.{TextsApart}
 use Rattle.rl_top.proofs.OneOutcome.{texts_apart}
-
--- answers, by what is known of them
-pub ok_for : {A E : Type 0} (P Q : A → Type 0) (r : Result A E) → ((x : A) → P x → Q x) → IfOk r P → IfOk r Q
-ok_for P Q (Ok x) step h = step x h
-ok_for P Q (Err e) step h = tt
-
-pub err_for : {A E : Type 0} (P Q : E → Type 0) (r : Result A E) → ((x : E) → P x → Q x) → IfErr r P → IfErr r Q
-err_for P Q (Ok x) step h = tt
-err_for P Q (Err e) step h = step e h
 
 pub stops_for : (M : Type 0) (P Q : Refusal → Type 0) (s : Stop) → ((r : Refusal) → P r → Q r) → Stops M P s → Stops ⊤ Q s
 stops_for M P Q (stop.Refused r) step h = step r h
@@ -117,17 +109,12 @@ class_stops m c models e stop.Memory fault of = tt
 class_stops m c models e (stop.Refused r) (inl none) of = absurd (subst (λ z. IsOfCompiling z r) none of)
 class_stops m c models e (stop.Refused r) (inr fault) of = (e, fault, of)
 
-pub names_text : (texts : List (List ℕ)) (n : ℕ) → n < length texts → Names texts n (text_in texts n)
-names_text [] n h = absurd (omega arith)
-names_text (x ∷ xs) zero h = refl
-names_text (x ∷ xs) (suc n) h = names_text xs n (omega arith)
-
 pub compiled_class : (texts : List (List ℕ)) (m : List Item) (models : ℕ) (c : Sym) (t : ClassTrees) → c.0 < length texts → t.class ≡ c
     → IsRightList (text_in texts) m c models (texts_of t.trees) t.cut → HasNoFault m models c → IsCompiled texts m models c t
 compiled_class texts m models c t within is list faultless = record {
   class = is;
   faultless = faultless;
-  written = record { name = subst (λ (z : Sym). Names texts c.0 (text_in texts z.0)) (sym is) (names_text texts c.0 within); list = list };
+  written = record { name = subst (λ (z : Sym). Names texts c.0 (text_in texts z.0)) (sym is) (text_named texts c.0 within); list = list };
 }
 
 pub valued_there : (m : List Item) → IsScoped m → Each (IsThere m) (valued_classes m)

@@ -1,14 +1,11 @@
 -- From a run over all tokens of a file to its answer, for each grammar without numbered parts whose brackets are closed behind each text.
-use Rattle.std.proofs.Common.{◌≡◌, ℕ, ◌-◌, ◌<◌, ◌≤◌, List, [], ◌∷◌, ◌++◌, length, true, Some, refl, ap, sym, ◌∙◌, subst, arith}
+use Rattle.std.proofs.Common.{◌≡◌, ℕ, ◌-◌, ◌<◌, ◌≤◌, List, [], ◌∷◌, length, true, Some, refl, ap, sym, ◌∙◌, subst, arith}
 use Rattle.std.specs.Prelude.{slice_range}
 use Rattle.std.proofs.lemmas.List.{length-map, length-append}
 use Rattle.gr_grammar.specs.Grammars.{Grammar, Matches, is_clear, IsFault, Runs, took, failed, tree_of}
 use Rattle.gr_grammar.specs.Depths.{IsShallowFault}
 use Rattle.gr_grammar.proofs.Exact.{fault_of, fault_behind}
 use Rattle.gr_tokens.specs.declared.Token.{Token}
-use Rattle.gr_tokens.specs.Tokens.{IsCut, nothing, a_gap, a_token}
-use Rattle.gr_tokens.specs.Answers.{AreTokens}
-use Rattle.gr_tokens.proofs.Openers.{next_some}
 use Rattle.gr_reader.specs.declared.brackets.TheConstants.{BRACKET_LIMIT}
 use Rattle.gr_reader.specs.Brackets.{turn}
 use Rattle.gr_reader.specs.Classes.{Class, flat}
@@ -20,16 +17,6 @@ use Rattle.gr_reader.proofs.Files.{later_lexemes}
 use Rattle.gr_reader.proofs.Fronts.{by_number}
 use Rattle.gr_reader.proofs.Levels.{all_shallow, fault_inside}
 use Rattle.gr_reader.proofs.Systems.{flat_is_system}
-
--- each token has a byte at least
-cut_few : (before bytes : List ℕ) (ts : List Token) (left : List ℕ) → IsCut before bytes ts left → length ts ≤ length bytes
-cut_few before bytes _ _ nothing = omega arith
-cut_few before bytes ts left (a_gap own rest f g s) = let a = cut_few (before ++ own) rest ts left s in let b = ap length f in let c = length-append own rest in omega arith
-cut_few before bytes _ left (a_token {t = t} {ts = ts} own rest f k s) =
-    let a = cut_few (before ++ own) rest ts left s in let b = ap length f in let c = length-append own rest in let d = next_some t.kind k.text own rest k.next in omega arith
-
-pub tokens_few : (bytes : List ℕ) (ts : List Token) → AreTokens bytes ts → length ts ≤ length bytes
-tokens_few bytes ts a = cut_few [] bytes ts [] a.cut
 
 module _ (g : Grammar Class) (clear : is_clear flat g ≡ true) (level : level_behind BRACKET_LIMIT 0 g ≡ Some 0) (bytes : List ℕ) (tokens : List Token) where
   abbrev all : List Lexeme

@@ -3,6 +3,7 @@ use Rattle.std.proofs.Common.{◌≡◌, ℕ, suc, ◌-◌, ◌≤◌, List, [],
 use Rattle.std.specs.Prelude.{nat_lt, ◌==◌, OnOk, slice_range}
 use Rattle.std.proofs.lemmas.Bool.{true≢false, cases_lt, lt-ltb}
 use Rattle.gr_base.specs.Lists.{Each}
+use Rattle.gr_base.proofs.ListLemmas.{append-nil_left, append-nil_right}
 use Rattle.gr_tokens.specs.declared.Token.{Token}
 use Rattle.gr_tokens.specs.declared.ReadRefusal.{ReadRefusal}
 use Rattle.gr_reader.specs.Lexemes.{Lexeme, lexemes}
@@ -31,18 +32,6 @@ use Rattle.gr_reader.proofs.LexemeLemmas.{Lexeme-set}
 use Rattle.gr_reader.proofs.Systems.{flat_is_system}
 use Rattle.sm_input.proofs.Plain.{none_left, plain_inputs}
 
--- lists that are empty together
-no_cons : {A : Type 0} (x : A) (xs : List A) → ◌≡◌ {A = List A} (x ∷ xs) [] → ⊥
-no_cons x xs e = cc
-
-pub left_empty : {A : Type 0} (xs ys : List A) → xs ++ ys ≡ [] → xs ≡ []
-left_empty [] ys e = refl
-left_empty (x ∷ xs) ys e = absurd (no_cons x (xs ++ ys) e)
-
-pub right_empty : {A : Type 0} (xs ys : List A) → xs ++ ys ≡ [] → ys ≡ []
-right_empty [] ys e = e
-right_empty (x ∷ xs) ys e = absurd (no_cons x (xs ++ ys) e)
-
 not_more : (n : ℕ) → nat_lt 24 n ≡ false → n ≤ 24
 not_more n e = elim (cases_lt 24 n) [ inl l ↦ absurd (true≢false (sym (lt-ltb 24 n l) ∙ e)) | inr l ↦ l ]
 
@@ -54,15 +43,15 @@ faultless number w plain e =
     let again = complaint_at Duplicate (again_left [] w.start) in
     record {
       plain = plain;
-      once = no_complaint_at Duplicate (again_left [] w.start) (right_empty count again (right_empty many (count ++ again) e));
-      few = not_more (length (firsts [] w.literals)) (no_complaint_if (nat_lt 24 (length (firsts [] w.literals))) InputLiterals w.left (left_empty many (count ++ again) e));
+      once = no_complaint_at Duplicate (again_left [] w.start) (append-nil_right count again (append-nil_right many (count ++ again) e));
+      few = not_more (length (firsts [] w.literals)) (no_complaint_if (nat_lt 24 (length (firsts [] w.literals))) InputLiterals w.left (append-nil_left many (count ++ again) e));
     }
 
 pub all_faultless : (number : ℕ) (ws : List WrittenInput) → Each (InputHas IsPlain) ws → inputs_bad number ws ≡ [] → Each IsFaultless ws
 all_faultless number [] plain e = tt
 all_faultless number (w ∷ ws) plain e = (
-  faultless number w plain.0 (left_empty (input_bad number w) (inputs_bad (suc number) ws) e),
-  all_faultless (suc number) ws plain.1 (right_empty (input_bad number w) (inputs_bad (suc number) ws) e),
+  faultless number w plain.0 (append-nil_left (input_bad number w) (inputs_bad (suc number) ws) e),
+  all_faultless (suc number) ws plain.1 (append-nil_right (input_bad number w) (inputs_bad (suc number) ws) e),
 )
 
 pub all_right : (texts : List (List ℕ)) (ws : List WrittenInput) (xs : List Input) → Each IsFaultless ws → AreFaultless texts ws xs → AreInputs texts ws xs
@@ -96,8 +85,8 @@ module _ (bytes : List ℕ) (tokens : List Token) (texts : List (List ℕ)) (f :
       let none : bad ≡ [] = none_is bad e in
       let ws = inputs_of f.tree in
       let v = variable_left (lexemes bytes tokens) in
-      let plain = plain_inputs f.tree (none_left (lexemes bytes tokens) (no_complaint_at Variable v (right_empty (inputs_bad 0 ws) (complaint_at Variable v) none))) in
-      (f, none, all_right texts ws row.items (all_faultless 0 ws plain (left_empty (inputs_bad 0 ws) (complaint_at Variable v) none)) z)
+      let plain = plain_inputs f.tree (none_left (lexemes bytes tokens) (no_complaint_at Variable v (append-nil_right (inputs_bad 0 ws) (complaint_at Variable v) none))) in
+      (f, none, all_right texts ws row.items (all_faultless 0 ws plain (append-nil_left (inputs_bad 0 ws) (complaint_at Variable v) none)) z)
   judged_by (Some c) row e z = refused c.fault (place_of_token bytes tokens (length tokens - c.left)) (record { first = c; is = e; refusal = refl })
 
   pub judged_right : (c d : Option Complaint) (row : Inputs) (x : Result Inputs ReadRefusal) → c ≡ all_noted None (inputs_bad 0 (inputs_of f.tree)) → AreFaultless texts (inputs_of f.tree) row.items
@@ -114,8 +103,8 @@ module _ (bytes : List ℕ) (tokens : List Token) (texts : List (List ℕ)) (f :
       let none : bad ≡ [] = none_is bad e in
       let ws = inputs_of f.tree in
       let v = variable_left (lexemes bytes tokens) in
-      let plain = plain_inputs f.tree (none_left (lexemes bytes tokens) (no_complaint_at Variable v (right_empty (inputs_bad 0 ws) (complaint_at Variable v) none))) in
-      p (all_faultless 0 ws plain (left_empty (inputs_bad 0 ws) (complaint_at Variable v) none))
+      let plain = plain_inputs f.tree (none_left (lexemes bytes tokens) (no_complaint_at Variable v (append-nil_right (inputs_bad 0 ws) (complaint_at Variable v) none))) in
+      p (all_faultless 0 ws plain (append-nil_left (inputs_bad 0 ws) (complaint_at Variable v) none))
   judged_table (Some c) row e p = tt
 
   pub table_right : (c d : Option Complaint) (row : Inputs) (x : Result Inputs ReadRefusal) (old new : List (List ℕ)) → c ≡ all_noted None (inputs_bad 0 (inputs_of f.tree))

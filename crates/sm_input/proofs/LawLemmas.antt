@@ -2,6 +2,7 @@
 use Rattle.std.proofs.Common.{◌≡◌, ℕ, List, [], ◌∷◌, Bool, true, false, None, Result, Ok, Err, inl, inr, refl, sym, ◌∙◌, ap, subst, arith}
 use Rattle.std.specs.Prelude.{◌⊎◌, if◌then◌else◌}
 use Rattle.gr_base.specs.Lists.{IsAmong, IsSublist, Each, NoneTwice}
+use Rattle.gr_base.proofs.ListLemmas.{append-nil_left, append-nil_right}
 use Rattle.gr_symbols.specs.Numbers.{Grows}
 use Rattle.gr_tokens.specs.Answers.{AreTokens, IsRefused}
 use Rattle.gr_tokens.specs.declared.Token.{Token}
@@ -32,7 +33,7 @@ use Rattle.sm_input.specs.Inputs.{IsInput, AreInputs, IsGround}
 use Rattle.sm_input.specs.Reading.{IsFaultless, InputHas, LiteralHas}
 use Rattle.sm_input.proofs.Same.{there_decides, word_of}
 use Rattle.sm_input.proofs.FirstLemmas.{to_by, firsts_each, firsts_once}
-use Rattle.sm_input.proofs.Finish.{all_faultless, left_empty, right_empty}
+use Rattle.sm_input.proofs.Finish.{all_faultless}
 use Rattle.sm_input.proofs.Plain.{none_left, plain_inputs}
 use Rattle.sm_input.proofs.Spelled.{NoFeed, none_fed, inputs_fed}
 use Rattle.sm_input.proofs.GroundLemmas.{bag_const, literals_const, literals_differ, numbered_length}
@@ -164,8 +165,8 @@ module _ (texts : List (List ℕ)) where
       let m = h.right.0.tree in
       let ws = inputs_of m in
       let v = variable_left (lexemes bytes h.tokens) in
-      let plain = plain_inputs m (none_left (lexemes bytes h.tokens) (no_complaint_at Variable v (right_empty (inputs_bad 0 ws) (complaint_at Variable v) h.right.1))) in
-      all_ground ws is.items (inputs_fed m (none_fed bytes h.tokens h.are)) (all_faultless 0 ws plain (left_empty (inputs_bad 0 ws) (complaint_at Variable v) h.right.1)) h.right.2
+      let plain = plain_inputs m (none_left (lexemes bytes h.tokens) (no_complaint_at Variable v (append-nil_right (inputs_bad 0 ws) (complaint_at Variable v) h.right.1))) in
+      all_ground ws is.items (inputs_fed m (none_fed bytes h.tokens h.are)) (all_faultless 0 ws plain (append-nil_left (inputs_bad 0 ws) (complaint_at Variable v) h.right.1)) h.right.2
 
 -- the table behind inputs is one
 pub one_table : (bytes : List ℕ) (old new later : List (List ℕ)) → HasTable bytes old new → HasTable bytes old later → new ≡ later

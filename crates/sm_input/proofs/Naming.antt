@@ -120,7 +120,3 @@ named_step old new rs r xs x ys number h grows e k is =
     let l = named_length old 1 rs xs h in
     let n : number ≡ 1 + length rs = omega (arith, e, l) in
     subst (AreNamed new 1 (rs ++ r ∷ [])) (sym is) (named_more new 1 rs r xs x (grown_named old new grows 1 rs xs h) (subst (λ m. IsNamedLiteral new m r x) n k))
-
-pub nothing_left : {A : Type 0} (xs : List A) → length xs ≡ 0 → xs ≡ []
-nothing_left [] e = refl
-nothing_left (x ∷ xs) e = absurd (omega (arith, e))

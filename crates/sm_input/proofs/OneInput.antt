@@ -2,6 +2,7 @@
 use Rattle.std.proofs.Common.{◌≡◌, ℕ, suc, List, [], ◌∷◌, Option, Some, None, refl, ap}
 use Rattle.std.specs.List.{AllZip}
 use Rattle.gr_base.specs.Lists.{NoneTwice}
+use Rattle.gr_base.proofs.Zips.{AllZip-one}
 use Rattle.gr_terms.specs.declared.Term.{Term}
 use Rattle.gr_terms.specs.declared.Term.TheVariants.{Const, Var}
 use Rattle.gr_terms.specs.declared.Literal.{Literal}
@@ -15,7 +16,7 @@ use Rattle.sm_input.specs.declared.input.Input.{Input}
 use Rattle.sm_input.specs.Firsts.{firsts}
 use Rattle.sm_input.specs.Grammars.{WrittenInput}
 use Rattle.sm_input.specs.Inputs.{IsName, IsHandle, IsLiteral, AreNumbered, IsInput, AreInputs, own_name}
-use Rattle.sm_input.proofs.Same.{same_sym, zip_one}
+use Rattle.sm_input.proofs.Same.{same_sym}
 
 pub none_is_numbering : IsNumbering none_met
 none_is_numbering = record { once = tt; rising = tt; below = tt }
@@ -37,7 +38,7 @@ module _ (texts : List (List ℕ)) (once : NoneTwice texts) where
   one_literal number w x y h k =
       let a = one_handle number w.handle x.handle y.handle h.handle k.handle in
       let b = one_name w.pred x.pred y.pred h.pred k.pred in
-      let c = zip_one (IsName texts) one_name w.args x.args y.args h.args k.args in
+      let c = AllZip-one (IsName texts) one_name w.args x.args y.args h.args k.args in
       λ i. record { handle = a i; pred = b i; args = c i }
 
   one_row : (number : ℕ) (ws : List WrittenLiteral) (xs ys : List Literal) → AreNumbered texts number ws xs → AreNumbered texts number ws ys → xs ≡ ys
@@ -56,7 +57,7 @@ module _ (texts : List (List ℕ)) (once : NoneTwice texts) where
       λ i. record { name = a i; start = (b i).bag; literals = c i }
 
   pub one_inputs : (ws : List WrittenInput) (xs ys : List Input) → AreInputs texts ws xs → AreInputs texts ws ys → xs ≡ ys
-  one_inputs = zip_one (IsInput texts) one_input
+  one_inputs = AllZip-one (IsInput texts) one_input
 
 module _ (texts later : List (List ℕ)) (grows : Grows texts later) where
   name_stays : (w : Written) (x : Term) → IsName texts w x → IsName later w x

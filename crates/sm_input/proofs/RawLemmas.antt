@@ -11,6 +11,7 @@ use Rattle.gr_feats.specs.Grammars.{Written, a_name, a_variable, with_args}
 use Rattle.gr_feats.specs.Sides.{IsSide, IsPerhapsSide}
 use Rattle.sm_input.specs.Reading.{IsRawTerm, IsRawLiteral, raw_term, raw_literal}
 use Rattle.std.proofs.lemmas.Slice.Zip.{all_zipped_more}
+use Rattle.gr_base.proofs.Zips.{AllZip-none}
 
 pub side_raw : (texts : List (List ℕ)) (w : Written) (s : Side) → IsSide texts w s → IsRawTerm texts w (raw_term s)
 side_raw texts (a_name t) (Name s) h = h
@@ -29,11 +30,8 @@ literal_raw texts w (Some v) ws s (Some t) xs h k z = record { handle = side_raw
 pub zip_more : {W X : Type 0} (R : W → X → Type 0) (ws : List W) (xs ys : List X) (w : W) (x : X) → AllZip R ws xs → R w x → ys ≡ xs ++ x ∷ [] → AllZip R (ws ++ w ∷ []) ys
 zip_more R ws xs ys w x z r e = subst (AllZip R (ws ++ w ∷ [])) (sym e) (all_zipped_more R ws xs w x z r)
 
-pub zip_none : {W X : Type 0} (R : W → X → Type 0) (xs : List X) → xs ≡ [] → AllZip R [] xs
-zip_none R xs e = subst (AllZip R []) (sym e) tt
-
 pub zip_first : {W X : Type 0} (R : W → X → Type 0) (xs ys : List X) (w : W) (x : X) → xs ≡ [] → R w x → ys ≡ xs ++ x ∷ [] → AllZip R (w ∷ []) ys
-zip_first R xs ys w x none r e = zip_more R [] xs ys w x (zip_none R xs none) r e
+zip_first R xs ys w x none r e = zip_more R [] xs ys w x (AllZip-none R xs none) r e
 
 -- a lexeme that may be skipped
 pub skipped : (c : Class) (ts rest : List Lexeme) (b : Bool) → Skips c ts rest b → length rest ≤ length ts

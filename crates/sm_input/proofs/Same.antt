@@ -7,6 +7,7 @@ use Rattle.std.proofs.lemmas.Bool.Decides.{Decides-like, Decides-and, Decides-or
 use Rattle.std.proofs.lemmas.Slice.Eq.{bytes_eq-Decides}
 use Rattle.gr_base.specs.Lists.{IsAmong, NoneTwice}
 use Rattle.gr_base.proofs.ListLemmas.{same_head, same_tail}
+use Rattle.gr_base.proofs.Zips.{AllZip-one}
 use Rattle.gr_terms.specs.declared.Sym.{Sym}
 use Rattle.gr_terms.specs.declared.Term.{Term}
 use Rattle.gr_terms.specs.declared.Term.TheVariants.{Const, Var}
@@ -52,15 +53,6 @@ pub there_decides : (ws : List WrittenLiteral) (w : WrittenLiteral) → Decides 
 there_decides [] w = differ (λ h. h)
 there_decides (v ∷ vs) w =
     Decides-or (same_literal v w) (is_there vs w) (Decides-like (same_literal v w) (λ e. sym e) (λ e. sym e) (literal_decides v w)) (there_decides vs w)
-
--- of a list one list is read, and one list is read as it
-pub zip_one : {W X : Type 0} (R : W → X → Type 0) → ((w : W) (x y : X) → R w x → R w y → x ≡ y) → (ws : List W) (xs ys : List X) → AllZip R ws xs → AllZip R ws ys → xs ≡ ys
-zip_one R one [] [] [] h k = refl
-zip_one R one [] [] (y ∷ ys) h k = absurd k
-zip_one R one [] (x ∷ xs) ys h k = absurd h
-zip_one R one (w ∷ ws) [] ys h k = absurd h
-zip_one R one (w ∷ ws) (x ∷ xs) [] h k = absurd k
-zip_one R one (w ∷ ws) (x ∷ xs) (y ∷ ys) h k = let e = one w x y h.0 k.0 in let f = zip_one R one ws xs ys h.1 k.1 in λ i. e i ∷ f i
 
 pub zip_back : {W X : Type 0} (R : W → X → Type 0) → ((w v : W) (x : X) → R w x → R v x → w ≡ v) → (ws vs : List W) (xs : List X) → AllZip R ws xs → AllZip R vs xs → ws ≡ vs
 zip_back R one [] [] [] h k = refl
@@ -132,5 +124,5 @@ module _ (texts : List (List ℕ)) where
     one_literal w x y h k =
         let e = one_handle w.handle x.handle y.handle h.handle k.handle in
         let f = one_term w.pred x.pred y.pred h.pred k.pred in
-        let g = zip_one (IsRawTerm texts) one_term w.args x.args y.args h.args k.args in
+        let g = AllZip-one (IsRawTerm texts) one_term w.args x.args y.args h.args k.args in
         λ i. record { handle = e i; pred = f i; args = g i }

@@ -1,7 +1,7 @@
 -- Places that suit a literal: how they are listed, which they are, and that rows have them.
 use Rattle.std.specs.Prelude.{◌≡◌, ℕ, zero, suc, ◌+◌, ◌<◌, ◌≤◌, List, [], ◌∷◌, ◌++◌, length, slice_get, Bool, true, false, nat_eq, ◌&&◌, if◌then◌else◌, Option, Some, None, ◌⊎◌, refl}
 use Rattle.std.proofs.Common.{inl, inr, ap, sym, ◌∙◌, subst, get_or, take, drop, append_assoc, append-nil, add-one, drop-cons, arith}
-use Rattle.std.proofs.lemmas.Bool.{false≢true, eqb-true, eq-eqb}
+use Rattle.std.proofs.lemmas.Bool.{false≢true, eqb-true, eq-eqb, and_parts}
 use Rattle.std.proofs.lemmas.List.{at_drop_all, take_more}
 use Rattle.std.proofs.lemmas.Option.{none-some, same_Some}
 use Rattle.gr_base.specs.Lists.{IsAmong, Each, IsRising}
@@ -95,15 +95,11 @@ module _ (pred : Option Sym) (arity : ℕ) where
 
 -- ---- what a literal that suits is
 
-both_true : (b c : Bool) → (b && c) ≡ true → (b ≡ true) × (c ≡ true)
-both_true true c h = (refl, h)
-both_true false c h = absurd (false≢true h)
-
 pub suits_arity : (pred : Option Sym) (arity : ℕ) (g : Literal) → suits pred arity g ≡ true → arity ≡ length g.args
-suits_arity pred arity g h = eqb-true arity (length g.args) (both_true (nat_eq arity (length g.args)) (may_be pred g.pred) h).0
+suits_arity pred arity g h = eqb-true arity (length g.args) (and_parts (nat_eq arity (length g.args)) (may_be pred g.pred) h).0
 
 pub suits_name : (pred : Option Sym) (arity : ℕ) (g : Literal) → suits pred arity g ≡ true → may_be pred g.pred ≡ true
-suits_name pred arity g h = (both_true (nat_eq arity (length g.args)) (may_be pred g.pred) h).1
+suits_name pred arity g h = (and_parts (nat_eq arity (length g.args)) (may_be pred g.pred) h).1
 
 pub suits_both : (pred : Option Sym) (arity : ℕ) (g : Literal) → arity ≡ length g.args → may_be pred g.pred ≡ true → suits pred arity g ≡ true
 suits_both pred arity g e h = ap (λ b. b && may_be pred g.pred) (eq-eqb arity (length g.args) e) ∙ h

@@ -8,6 +8,7 @@ use Rattle.gr_base.specs.Forests.{Forest, empty, tree, beside, labels, map_fores
 use Rattle.gr_base.specs.Lists.{Each, gathered}
 use Rattle.gr_base.proofs.ForestLemmas.{beside_assoc, beside-empty, labels-beside, size-beside}
 use Rattle.gr_base.proofs.ListLemmas.{Each-append, same_head, drop-slice_get, drop-behind, drop-part}
+use Rattle.gr_base.proofs.Gathering.{gathered-append}
 use Rattle.gr_terms.specs.Canonical as canonical
 use Rattle.gr_terms.specs.Canonical.{Label, Node}
 use Rattle.gr_terms.specs.Networks.{Term}
@@ -48,10 +49,6 @@ preorder-first n parent b kids more rest =
     ∙ sym (preorder-one n parent b kids (preorder (suc n + size kids) parent more ++ rest))
 
 -- ---- terms and texts of forests side by side
-
-gathered-append : {A B : Type 0} (f : A → List B) (xs ys : List A) → gathered f (xs ++ ys) ≡ gathered f xs ++ gathered f ys
-gathered-append f [] ys = refl
-gathered-append f (x ∷ xs) ys = ap (λ z. f x ++ z) (gathered-append f xs ys) ∙ sym (append_assoc (f x) (gathered f xs) (gathered f ys))
 
 map_forest-beside : {A B : Type 0} (f : A → B) (g h : Forest A) → map_forest f (beside g h) ≡ beside (map_forest f g) (map_forest f h)
 map_forest-beside f empty h = refl

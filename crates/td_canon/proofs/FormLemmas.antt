@@ -7,9 +7,10 @@ use Rattle.std.proofs.lemmas.List.{map-append}
 use Rattle.std.proofs.lemmas.Option.{same_Some}
 use Rattle.gr_base.specs.Lists.{IsAmong, Each, InByteOrder, IsRising, gathered}
 use Rattle.gr_base.specs.Forests.{Forest, empty, tree, AreAlike, labels, map_forest, numbered, size}
-use Rattle.gr_base.proofs.ForestLemmas.{length-labels}
-use Rattle.gr_base.proofs.ListLemmas.{Each-at, Each-left, Each-right, IsAmong-append_left, IsAmong-append_right, IsAmong-map, IsAmong-map_from, IsAmong-slice_get, slice_get-append_left, IsAmong-gathered}
+use Rattle.gr_base.proofs.ForestLemmas.{length-labels, labels-map}
+use Rattle.gr_base.proofs.ListLemmas.{Each-at, Each-left, Each-right, IsAmong-append_left, IsAmong-append_right, IsAmong-map, IsAmong-map_from, IsAmong-slice_get, slice_get-append_left, IsAmong-gathered, slice_get-append_right}
 use Rattle.gr_base.proofs.RisingKeys.{IsRising-same}
+use Rattle.gr_base.proofs.Gathering.{gathered-read}
 use Rattle.gr_terms.specs.Canonical.{Decorated, Label, Node, named, node_values, walked, values, literal_terms, map_literal, IsExact, IsMet, IsNumberedFrom, IsCanonicalForm, ListsNode, ListsSlot}
 use Rattle.gr_terms.specs.Constants.{CAT}
 use Rattle.gr_terms.specs.Networks.{Term, name, variable, AreLinked, same}
@@ -26,14 +27,6 @@ use Rattle.td_canon.proofs.OrderLemmas.{in_order-within, within-in_order}
 values-labelled : (label : Term ℕ → Label) (ps : Pairs) → values (labelled label ps) ≡ map label (values_in ps)
 values-labelled label [] = refl
 values-labelled label (p ∷ ps) = ap (λ ls. label p.1 ∷ ls) (values-labelled label ps)
-
-labels-map : {A B : Type 0} (f : A → B) (g : Forest A) → labels (map_forest f g) ≡ map f (labels g)
-labels-map f empty = refl
-labels-map f (tree a kids more) = ap (λ ls. f a ∷ ls) (ap₂ (λ xs ys. xs ++ ys) (labels-map f kids) (labels-map f more) ∙ sym (map-append f (labels kids) (labels more)))
-
-gathered-map : {A B C D : Type 0} (f : A → C) (g : C → List D) (h : A → List B) (label : B → D) → ((x : A) → g (f x) ≡ map label (h x)) → (xs : List A) → gathered g (map f xs) ≡ map label (gathered h xs)
-gathered-map f g h label each [] = refl
-gathered-map f g h label each (x ∷ xs) = ap₂ (λ xs ys. xs ++ ys) (each x) (gathered-map f g h label each xs) ∙ sym (map-append label (h x) (gathered h xs))
 
 module _ (text : ℕ → List ℕ) (label : Term ℕ → Label) where
   node_values-form : (n : Node Pairs) → node_values (form_node text label n) ≡ map label (node_terms text n)
@@ -56,9 +49,9 @@ module _ (text : ℕ → List ℕ) (label : Term ℕ → Label) where
   pub walked-form : (d : Decorated Pairs (Term ℕ)) → walked (form_of text label d) ≡ map label (tree_terms text d)
   walked-form d =
       ap₂ (λ xs ys. (xs ++ ys) ++ gathered literal_terms (map (map_literal label) d.literals))
-      (ap (gathered node_values) (labels-map (form_node text label) d.nodes) ∙ gathered-map (form_node text label) node_values (node_terms text) label node_values-form (labels d.nodes))
+      (ap (gathered node_values) (labels-map (form_node text label) d.nodes) ∙ gathered-read (form_node text label) node_values (node_terms text) label node_values-form (labels d.nodes))
       (values-labelled label (in_order text d.interface))
-      ∙ ap (λ xs. (map label (forest_terms text d.nodes) ++ map label (values_in (in_order text d.interface))) ++ xs) (gathered-map (map_literal label) literal_terms literal_terms label (λ l. refl) d.literals)
+      ∙ ap (λ xs. (map label (forest_terms text d.nodes) ++ map label (values_in (in_order text d.interface))) ++ xs) (gathered-read (map_literal label) literal_terms literal_terms label (λ l. refl) d.literals)
       ∙ ap (λ xs. xs ++ map label (gathered literal_terms d.literals)) (sym (map-append label (forest_terms text d.nodes) (values_in (in_order text d.interface))))
       ∙ sym (map-append label (forest_terms text d.nodes ++ values_in (in_order text d.interface)) (gathered literal_terms d.literals))
 
@@ -214,10 +207,6 @@ module _ (text : ℕ → List ℕ) where
         here : (part : Part) (a : ℕ) (x : Term ℕ) → IsPairAt d (at_node n part) (a, x) → IsAmong (list_of part lists) (a, x)
         here part a x (others, at', i) = subst (λ z. IsAmong (list_of part z) (a, x)) (same_Some others lists (sym at' ∙ at)) i
 
-    slice_get-right : {A : Type 0} (xs ys : List A) (i : ℕ) → slice_get (xs ++ ys) (length xs + i) ≡ slice_get ys i
-    slice_get-right [] ys i = let e : 0 + i ≡ i = omega arith in ap (slice_get ys) e
-    slice_get-right (x ∷ xs) ys i = let e : suc (length xs) + i ≡ suc (length xs + i) = omega arith in ap (slice_get (x ∷ xs ++ ys)) e ∙ slice_get-right xs ys i
-
     lists_forest : (label : Term ℕ → Label) (k : ℕ) (f : Forest (Node Pairs)) → ((i : ℕ) (lists : Node Pairs) → slice_get (labels f) i ≡ Some lists → slice_get (labels d.nodes) (k + i) ≡ Some lists) →
         Each (AreOrderedLists text) (labels f) → AreAlike (ListsNode text (tree_network d) label) (map_forest (λ p. slots_at p.0) (numbered k f)) (map_forest (form_node text label) f)
     lists_forest label k empty at good = tt
@@ -228,7 +217,7 @@ module _ (text : ℕ → List ℕ) where
               (λ i others h. subst (λ m. slice_get (labels d.nodes) m ≡ Some others) (omega arith) (at (suc i) others (slice_get-append_left (labels kids) (labels more) i others h)))
               (Each-left (AreOrderedLists text) (labels kids) (labels more) good.1),
           lists_forest label (suc k + size kids) more
-              (λ i others h. subst (λ m. slice_get (labels d.nodes) m ≡ Some others) (omega arith) (at (suc (length (labels kids) + i)) others (slice_get-right (labels kids) (labels more) i ∙ h)))
+              (λ i others h. subst (λ m. slice_get (labels d.nodes) m ≡ Some others) (omega arith) (at (suc (length (labels kids) + i)) others (slice_get-append_right (labels kids) (labels more) i ∙ h)))
               (Each-right (AreOrderedLists text) (labels kids) (labels more) good.1),
         )
 

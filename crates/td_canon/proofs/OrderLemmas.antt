@@ -1,7 +1,7 @@
 -- Pairs in byte order of their attributes' texts: one list, whatever order they come in.
 use Rattle.std.specs.Prelude.{◌≡◌, ℕ, ◌<◌, Bool, true, false, nat_lt, ◌==◌, ◌||◌, ◌&&◌, List, [], ◌∷◌, map, length, ◌⊎◌, if◌then◌else◌, refl}
 use Rattle.std.proofs.Common.{inl, inr, ap, ap₂, sym, ◌∙◌, subst, arith}
-use Rattle.std.proofs.lemmas.Bool.{false≢true}
+use Rattle.std.proofs.lemmas.Bool.{false≢true, and_parts, or_cases}
 use Rattle.std.proofs.lemmas.Bool.Decides.{Decides-eqb, Decides-ltb}
 use Rattle.std.proofs.lemmas.Option.{slice_get-get_or}
 use Rattle.gr_base.specs.Lists.{IsAmong, IsWithin, Each, IsBefore, InByteOrder, IsRising, NoneTwice}
@@ -17,20 +17,12 @@ use Rattle.td_canon.specs.Writing.{TextPairs, by_text, in_order, is_before, put_
 
 -- ---- the test decides the order of texts
 
-or_split : (a b : Bool) → (a || b) ≡ true → (a ≡ true) ⊎ (b ≡ true)
-or_split true b h = inl refl
-or_split false b h = inr h
-
-and_split : (a b : Bool) → (a && b) ≡ true → (a ≡ true) × (b ≡ true)
-and_split true b h = (refl, h)
-and_split false b h = absurd (false≢true h)
-
 pub is_before-IsBefore : (xs ys : List ℕ) → is_before xs ys ≡ true → IsBefore xs ys
 is_before-IsBefore xs [] h = absurd (false≢true h)
 is_before-IsBefore [] (y ∷ ys) h = tt
-is_before-IsBefore (x ∷ xs) (y ∷ ys) h = elim (or_split (nat_lt x y) ((x == y) && is_before xs ys) h) [
+is_before-IsBefore (x ∷ xs) (y ∷ ys) h = elim (or_cases (nat_lt x y) ((x == y) && is_before xs ys) h) [
   | inl less ↦ inl ((Decides-ltb x y).0 less)
-  | inr more ↦ let both = and_split (x == y) (is_before xs ys) more in inr ((Decides-eqb x y).0 both.0, is_before-IsBefore xs ys both.1)
+  | inr more ↦ let both = and_parts (x == y) (is_before xs ys) more in inr ((Decides-eqb x y).0 both.0, is_before-IsBefore xs ys both.1)
 ]
 
 pub IsBefore-is_before : (xs ys : List ℕ) → IsBefore xs ys → is_before xs ys ≡ true

@@ -9,7 +9,8 @@ use Rattle.std.proofs.Common.{inl, inr, ap, ap₂, add-one, sym, ◌∙◌, subs
 use Rattle.std.proofs.lemmas.Option.{none-some, same_Some, slice_get-get_or}
 use Rattle.gr_base.specs.Lists.{IsAmong, Each, IsBefore, InByteOrder}
 use Rattle.gr_base.proofs.Counting.{IsBefore-irreflexive, IsBefore-trans}
-use Rattle.gr_base.proofs.ListLemmas.{Each-at, Each-left, Each-right, Each-map, Each-map_from, Each-members, Each-middle, IsAmong-append, IsAmong-map, IsAmong-map_from, IsAmong-slice_get, slice_get-append_left}
+use Rattle.gr_base.proofs.ListLemmas.{Each-at, Each-left, Each-right, Each-map, Each-map_from, Each-members, Each-middle, IsAmong-append, IsAmong-map, IsAmong-map_from, IsAmong-slice_get, slice_get-append_left, slice_get-some, slice_get_push}
+use Rattle.gr_base.proofs.Numbers.{less_same_more}
 use Rattle.td_tree.specs.Trees.{AreTreeNodes}
 use Rattle.td_tree.specs.declared.Tree.{Tree}
 use Rattle.td_canon.specs.CanonicalTexts.{HasText}
@@ -19,15 +20,10 @@ use Rattle.td_canon.specs.declared.tree_set.Held.{Held}
 
 -- ---- what stands at the places
 
-element_at : {X : Type 0} (xs : List X) (i : ℕ) → i < length xs → (x : X) × (slice_get xs i ≡ Some x)
-element_at [] i within = absurd (omega arith)
-element_at (x ∷ xs) zero within = (x, refl)
-element_at (x ∷ xs) (suc i) within = element_at xs i (omega arith)
-
 pub length-entries : (held : List Held) (order : List ℕ) → Each (λ i. i < length held) order → length (entries_by held order) ≡ length order
 length-entries held [] within = refl
 length-entries held (i ∷ order) within =
-    let h = element_at held i within.0 in
+    let h = slice_get-some held i within.0 in
     ap (λ o. length (some_entry o ++ entries_by held order)) h.1 ∙ ap suc (length-entries held order within.1)
 
 pub entries-at : (held : List Held) (order : List ℕ) (k i : ℕ) (h : Held) → Each (λ j. j < length held) order → slice_get order k ≡ Some i → slice_get held i ≡ Some h →
@@ -35,7 +31,7 @@ pub entries-at : (held : List Held) (order : List ℕ) (k i : ℕ) (h : Held) �
 entries-at held [] k i h within at there = absurd (none-some i at)
 entries-at held (j ∷ order) zero i h within at there = ap (λ o. slice_get (some_entry o ++ entries_by held order) zero) (ap (slice_get held) (same_Some j i at) ∙ there)
 entries-at held (j ∷ order) (suc k) i h within at there =
-    let g = element_at held j within.0 in
+    let g = slice_get-some held j within.0 in
     ap (λ o. slice_get (some_entry o ++ entries_by held order) (suc k)) g.1 ∙ entries-at held order k i h within.1 at there
 
 -- a place in the order, and the place that stands there
@@ -51,7 +47,7 @@ entry_at held order k i d h e within there i_is inside h_is =
 entries-push : (held : List Held) (order : List ℕ) (h : Held) → Each (λ i. i < length held) order → entries_by (held ++ h ∷ []) order ≡ entries_by held order
 entries-push held [] h within = refl
 entries-push held (i ∷ order) h within =
-    let g = element_at held i within.0 in
+    let g = slice_get-some held i within.0 in
     ap₂ (λ o es. some_entry o ++ es) (slice_get-append_left held (h ∷ []) i g.0 g.1 ∙ sym g.1) (entries-push held order h within.1)
 
 entries-append : (held : List Held) (order others : List ℕ) → entries_by held (order ++ others) ≡ entries_by held order ++ entries_by held others
@@ -62,7 +58,7 @@ entries-take : (held : List Held) (order : List ℕ) (k : ℕ) → Each (λ i. i
 entries-take held order zero within = refl
 entries-take held [] (suc k) within = refl
 entries-take held (i ∷ order) (suc k) within =
-    let g = element_at held i within.0 in
+    let g = slice_get-some held i within.0 in
     ap (λ o. some_entry o ++ entries_by held (take k order)) g.1
     ∙ ap (λ es. entry_of g.0 ∷ es) (entries-take held order k within.1)
     ∙ ap (λ o. take (suc k) (some_entry o ++ entries_by held order)) (sym g.1)
@@ -71,12 +67,8 @@ entries-drop : (held : List Held) (order : List ℕ) (k : ℕ) → Each (λ i. i
 entries-drop held order zero within = refl
 entries-drop held [] (suc k) within = refl
 entries-drop held (i ∷ order) (suc k) within =
-    let g = element_at held i within.0 in
+    let g = slice_get-some held i within.0 in
     entries-drop held order k within.1 ∙ ap (λ o. drop (suc k) (some_entry o ++ entries_by held order)) (sym g.1)
-
-last_held : {X : Type 0} (xs : List X) (x : X) → slice_get (xs ++ x ∷ []) (length xs) ≡ Some x
-last_held [] x = refl
-last_held (y ∷ ys) x = last_held ys x
 
 -- a tree that came last, put in at a place
 pub entries-insert : (held : List Held) (order : List ℕ) (place : ℕ) (h : Held) → Each (λ i. i < length held) order →
@@ -86,7 +78,7 @@ entries-insert held order place h within =
     let front : Each (λ i. i < length held) (take place order) = Each-left (λ i. i < length held) (take place order) (drop place order) (subst (λ xs. Each (λ i. i < length held) xs) (sym (take-append-drop place order)) within) in
     let back : Each (λ i. i < length held) (drop place order) = Each-right (λ i. i < length held) (take place order) (drop place order) (subst (λ xs. Each (λ i. i < length held) xs) (sym (take-append-drop place order)) within) in
     entries-append all (take place order) (length held ∷ drop place order)
-    ∙ ap₂ (λ es o. es ++ (some_entry o ++ entries_by all (drop place order))) (entries-push held (take place order) h front ∙ entries-take held order place within) (last_held held h)
+    ∙ ap₂ (λ es o. es ++ (some_entry o ++ entries_by all (drop place order))) (entries-push held (take place order) h front ∙ entries-take held order place within) (slice_get_push held h)
     ∙ ap (λ es. take place (entries_by held order) ++ entry_of h ∷ es) (entries-push held (drop place order) h back ∙ entries-drop held order place within)
 
 -- ---- a set with one more
@@ -166,14 +158,8 @@ pub compared : (xs ys : List ℕ) → Compared xs ys (slice_cmp nat_cmp xs ys)
 compared [] [] = refl
 compared [] (y ∷ ys) = tt
 compared (x ∷ xs) [] = tt
-compared (x ∷ xs) (y ∷ ys) = by (three x y) (slice_cmp nat_cmp xs ys) (compared xs ys)
+compared (x ∷ xs) (y ∷ ys) = by (less_same_more x y) (slice_cmp nat_cmp xs ys) (compared xs ys)
   where
-    three : (x y : ℕ) → (x < y) ⊎ ((x ≡ y) ⊎ (y < x))
-    three zero zero = inr (inl refl)
-    three zero (suc y) = inl (omega arith)
-    three (suc x) zero = inr (inr (omega arith))
-    three (suc x) (suc y) = elim (three x y) [ inl h ↦ inl (omega arith) | inr (inl e) ↦ inr (inl (ap suc e)) | inr (inr h) ↦ inr (inr (omega arith)) ]
-
     rest : (o : Ordering) → x ≡ y → Compared xs ys o → Compared (x ∷ xs) (y ∷ ys) o
     rest Less e h = inr (e, h)
     rest Equal e h = ap₂ (λ z zs. z ∷ zs) e h

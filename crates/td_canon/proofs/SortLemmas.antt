@@ -12,6 +12,7 @@ use Rattle.std.specs.List.Sorted.{IsPermutation, IsSortedBy}
 use Rattle.std.proofs.Common.{ap, sym, ◌∙◌, subst, arith, take-append-drop}
 use Rattle.std.proofs.lemmas.Cmp.{nat_list_cmp_total}
 use Rattle.std.proofs.lemmas.List.Sorted.{IsPermutation-map, IsPermutation-sym, length_permutation, ranks_by}
+use Rattle.std.proofs.lemmas.List.{nil_from_length}
 use Rattle.gr_base.specs.Lists.{IsWithin, Each, IsBefore, InByteOrder, NoneTwice}
 use Rattle.gr_base.proofs.ListLemmas.{Each-at, Each-members, Each-right}
 use Rattle.gr_base.proofs.OrderedPairs.{InByteOrder-sorted, IsBefore-Less, IsWithin-permutation, NoneTwice-permutation}
@@ -84,10 +85,6 @@ length-seen : (ps : List Pair) → length (seen_pairs ps) ≡ length ps
 length-seen [] = refl
 length-seen (p ∷ ps) = ap suc (length-seen ps)
 
-none_left : {X : Type 0} (xs : List X) → length xs ≡ 0 → xs ≡ []
-none_left [] e = refl
-none_left (x ∷ xs) e = absurd (omega arith)
-
 -- pairs of a bag that a sort has put in order
 pub sorted_pairs : (texts : List (List ℕ)) (bag : BagPairs) (ps qs : List Pair) → IsListed bag → IsNamedBag (length texts) bag → (0 < length bag → NoneTwice texts) →
     seen_pairs ps ≡ by_text (text_in texts) (pairs_of bag) → IsPermutation ps qs → IsSortedBy is_less qs → seen_pairs qs ≡ by_text (text_in texts) (in_order (text_in texts) (pairs_of bag))
@@ -95,7 +92,7 @@ sorted_pairs texts [] ps qs listed named distinct are moved sorted =
     let none : length (seen_pairs ps) ≡ 0 = ap length are in
     let as_many : length (seen_pairs ps) ≡ length ps = length-seen ps in
     let moved_as_many : length qs ≡ length ps = length_permutation ps qs moved in
-    ap seen_pairs (none_left qs (omega arith))
+    ap seen_pairs (nil_from_length qs (omega arith))
 sorted_pairs texts (p ∷ bag) ps qs listed named distinct are moved sorted =
     let text = text_in texts in
     let pairs = pairs_of (p ∷ bag) in

@@ -1,11 +1,11 @@
 -- Texts side by side are told apart: of names, numbers and pairs.
-use Rattle.std.specs.Prelude.{◌≡◌, ℕ, ◌<◌, ◌^◌, Bool, true, false, not, ◌&&◌, ◌||◌, ◌==◌, List, [], ◌∷◌, ◌++◌, codes, ◌⊎◌, ⊤, if◌then◌else◌, refl}
+use Rattle.std.specs.Prelude.{◌≡◌, ℕ, ◌<◌, ◌^◌, Bool, true, false, not, ◌&&◌, ◌||◌, ◌==◌, List, [], ◌∷◌, ◌++◌, codes, ⊤, if◌then◌else◌, refl}
 use Rattle.std.specs.Fmt.{decimal}
 use Rattle.std.specs.Int.{IsInRange}
 use Rattle.std.specs.List.{join_with_byte}
 use Rattle.std.specs.Str.Parse.{AllDigits, digits_value}
 use Rattle.std.proofs.Common.{inl, inr, ap, ap₂, sym, ◌∙◌, subst, arith, append_assoc, le-leb}
-use Rattle.std.proofs.lemmas.Bool.{false≢true}
+use Rattle.std.proofs.lemmas.Bool.{false≢true, and_from, or_right, or_left, and_parts, or_cases}
 use Rattle.std.proofs.lemmas.Bool.Decides.{Decides-eqb}
 use Rattle.std.proofs.lemmas.Fmt.{decimal_is_IsNumeral}
 use Rattle.std.proofs.lemmas.Str.Parse.{digit_from_value}
@@ -49,29 +49,13 @@ is_letter b = is_word_byte b || (b == 45)
 abbrev pub begins_value : ℕ → Bool
 begins_value b = is_word_byte b || (b == 34) || (b == 63)
 
-or_left : (a b : Bool) → a ≡ true → (a || b) ≡ true
-or_left true b h = refl
-or_left false b h = absurd (false≢true h)
-
-or_split : (a b : Bool) → (a || b) ≡ true → (a ≡ true) ⊎ (b ≡ true)
-or_split true b h = inl refl
-or_split false b h = inr h
-
-and_split : (a b : Bool) → (a && b) ≡ true → (a ≡ true) × (b ≡ true)
-and_split true b h = (refl, h)
-and_split false b h = absurd (false≢true h)
-
-or_right : (a b : Bool) → b ≡ true → (a || b) ≡ true
-or_right true b h = refl
-or_right false b h = h
-
 letters : (bs : List ℕ) → is_word_rest bs ≡ true → Each (λ b. is_letter b ≡ true) bs
 letters [] h = tt
 letters (b ∷ bs) h =
-    let both = and_split (is_word_byte b || ((b == 45) && begins_with_word_byte bs)) (is_word_rest bs) h in (
-      elim (or_split (is_word_byte b) ((b == 45) && begins_with_word_byte bs) both.0) [
+    let both = and_parts (is_word_byte b || ((b == 45) && begins_with_word_byte bs)) (is_word_rest bs) h in (
+      elim (or_cases (is_word_byte b) ((b == 45) && begins_with_word_byte bs) both.0) [
         | inl w ↦ or_left (is_word_byte b) (b == 45) w
-        | inr d ↦ or_right (is_word_byte b) (b == 45) (and_split (b == 45) (begins_with_word_byte bs) d).0
+        | inr d ↦ or_right (is_word_byte b) (b == 45) (and_parts (b == 45) (begins_with_word_byte bs) d).0
       ],
       letters bs both.1,
     )
@@ -80,14 +64,10 @@ digit_letters : (ds : List ℕ) → AllDigits 10 ds → Each (λ b. is_letter b 
 digit_letters [] h = tt
 digit_letters (c ∷ cs) h =
     let range : IsInRange 48 57 c = digit_from_value c h.0 in (
-      or_left (is_word_byte c) (c == 45) (first_or _ _ _ _ _ (both_true _ _ (le-leb 48 c (omega (arith, range))) (le-leb c 57 (omega (arith, range))))),
+      or_left (is_word_byte c) (c == 45) (first_or _ _ _ _ _ (and_from _ _ (le-leb 48 c (omega (arith, range))) (le-leb c 57 (omega (arith, range))))),
       digit_letters cs h.1,
     )
   where
-    both_true : (a b : Bool) → a ≡ true → b ≡ true → (a && b) ≡ true
-    both_true true b h k = k
-    both_true false b h k = h
-
     first_or : (a b d e f : Bool) → a ≡ true → (a || b || d || e || f) ≡ true
     first_or true b d e f h = refl
     first_or false b d e f h = absurd (false≢true h)
@@ -111,7 +91,7 @@ module _ (text : ℕ → List ℕ) (Good : ℕ → Type 0) (apart : (a b : ℕ) 
   looks (named a) h = by (is_word (text a)) refl
     where
       by : (b : Bool) → is_word (text a) ≡ b → Looks (named a)
-      by true e = bare a refl (letters (text a) (and_split (begins_with_word_byte (text a)) (is_word_rest (text a)) e).1) e (ap (λ b. if b then text a else quoted (text a)) e)
+      by true e = bare a refl (letters (text a) (and_parts (begins_with_word_byte (text a)) (is_word_rest (text a)) e).1) e (ap (λ b. if b then text a else quoted (text a)) e)
       by false e = in_quotes a refl h.1 (ap (λ b. if b then text a else quoted (text a)) e)
 
   -- the first byte of a label
@@ -123,7 +103,7 @@ module _ (text : ℕ → List ℕ) (Good : ℕ → Type 0) (apart : (a b : ℕ) 
 
   word_first : (t : List ℕ) → is_word t ≡ true → (b : ℕ) × (bs : List ℕ) × (t ≡ b ∷ bs) × (is_word_byte b ≡ true)
   word_first [] h = absurd (false≢true h)
-  word_first (b ∷ bs) h = (b, bs, refl, (and_split (is_word_byte b) (is_word_rest (b ∷ bs)) h).0)
+  word_first (b ∷ bs) h = (b, bs, refl, (and_parts (is_word_byte b) (is_word_rest (b ∷ bs)) h).0)
 
   pub begins : (l : Label) → CanSpell l → Begins l
   begins l h = by (looks l h)

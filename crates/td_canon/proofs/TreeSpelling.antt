@@ -2,7 +2,7 @@
 use Rattle.std.specs.Prelude.{◌≡◌, ℕ, Bool, true, false, ◌||◌, ◌==◌, List, [], ◌∷◌, ◌++◌, map, codes, ◌⊎◌, ⊤, if◌then◌else◌, refl}
 use Rattle.std.specs.List.{join_with_byte}
 use Rattle.std.proofs.Common.{inl, inr, ap, sym, ◌∙◌, subst, arith, append_assoc}
-use Rattle.std.proofs.lemmas.Bool.{false≢true}
+use Rattle.std.proofs.lemmas.Bool.{false≢true, or_cases}
 use Rattle.std.proofs.lemmas.Bool.Decides.{Decides-eqb}
 use Rattle.gr_base.specs.Lists.{IsAmong, IsWithin, Each, InByteOrder}
 use Rattle.gr_base.specs.Forests.{Forest, empty, tree, labels}
@@ -78,14 +78,10 @@ abbrev pub EndsTree : List ℕ → Type 0
 EndsTree [] = ⊤
 EndsTree (b ∷ bs) = ((b == 32) || (b == 41)) ≡ true
 
-or_split : (a b : Bool) → (a || b) ≡ true → (a ≡ true) ⊎ (b ≡ true)
-or_split true b h = inl refl
-or_split false b h = inr h
-
 ends_stop : (p : ℕ → Bool) (r : List ℕ) → p 40 ≡ false → p 32 ≡ false → p 41 ≡ false → Ends r → Stops p r
 ends_stop p [] a b c e = tt
-ends_stop p (x ∷ r) a b c e = elim (or_split ((x == 40) || (x == 32)) (x == 41) e) [
-  | inl h ↦ elim (or_split (x == 40) (x == 32) h) [
+ends_stop p (x ∷ r) a b c e = elim (or_cases ((x == 40) || (x == 32)) (x == 41) e) [
+  | inl h ↦ elim (or_cases (x == 40) (x == 32) h) [
     | inl k ↦ ap p ((Decides-eqb x 40).0 k) ∙ a
     | inr k ↦ ap p ((Decides-eqb x 32).0 k) ∙ b
   ]
@@ -94,7 +90,7 @@ ends_stop p (x ∷ r) a b c e = elim (or_split ((x == 40) || (x == 32)) (x == 41
 
 tree_stop : (p : ℕ → Bool) (r : List ℕ) → p 32 ≡ false → p 41 ≡ false → EndsTree r → Stops p r
 tree_stop p [] b c e = tt
-tree_stop p (x ∷ r) b c e = elim (or_split (x == 32) (x == 41) e) [
+tree_stop p (x ∷ r) b c e = elim (or_cases (x == 32) (x == 41) e) [
   | inl k ↦ ap p ((Decides-eqb x 32).0 k) ∙ b
   | inr k ↦ ap p ((Decides-eqb x 41).0 k) ∙ c
 ]

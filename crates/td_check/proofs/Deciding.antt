@@ -1,7 +1,7 @@
 -- The parts of a minimal model, and what each test decides of it.
 use Rattle.std.specs.Prelude.{◌≡◌, ℕ, ◌+◌, ◌-◌, ◌*◌, ◌<◌, ◌≤◌, List, ◌++◌, length, take, ◌↔◌, Bool, true, false, IsTrue, refl}
 use Rattle.std.proofs.Common.{ap, sym, ◌∙◌, subst, arith}
-use Rattle.std.proofs.lemmas.List.{take_all}
+use Rattle.std.proofs.lemmas.List.{take_all, length-map}
 use Rattle.gr_base.specs.Lists.{Each, gathered}
 use Rattle.gr_base.specs.Forests.{Forest, empty, tree, IsOneTree, labels, size}
 use Rattle.gr_terms.specs.Canonical.{Node}
@@ -29,7 +29,7 @@ use Rattle.td_check.specs.Places.{AreLaid, AreHeads, DecidesRelations, HasAttrib
 use Rattle.td_check.proofs.Ends.{length-laid}
 use Rattle.td_check.proofs.Onto.{onto_forest, forest_onto, labels-sets, each_set, set_each}
 use Rattle.td_check.proofs.Whole.{attributes_of, loaded_is, loaded_agrees, network_agrees, merged_agrees}
-use Rattle.td_check.proofs.Telling.{length_map, tree_found, nodes_told, interface_told, values_told}
+use Rattle.td_check.proofs.Telling.{tree_found, nodes_told, interface_told, values_told}
 use Rattle.td_check.specs.Shifts.{Gains, moved}
 use Rattle.td_check.proofs.Gaining.{length-moved, length-network}
 use Rattle.td_check.proofs.Heads.{head_sends}
@@ -73,7 +73,7 @@ pub undo_gives : (old new last : Contents) (m : Mark) → m ≡ mark_of old → 
 undo_gives old new last m is grows e = e ∙ ap (λ z. first_part new z) is ∙ first_part-grown old new grows
 
 length_read : (d : Description) → length (description_of d).nodes ≡ length d.nodes
-length_read d = length_map node_of d.nodes
+length_read d = length-map d.nodes node_of
 
 -- what the code finds of the two sides
 pub record IsAlike (Q : List (net.Assertion ℕ ℕ)) (d : Description) (t : Tree) (heads : List ℕ) (vars slots : ℕ) : Type 0 where

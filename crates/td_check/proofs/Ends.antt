@@ -4,6 +4,7 @@ use Rattle.std.proofs.Common.{inl, inr, ap, sym, ◌∙◌, subst, arith, get_or
 use Rattle.std.proofs.lemmas.Bool.{cases_lt, cases_eq, cases_order}
 use Rattle.std.proofs.lemmas.Option.{none-some, same_Some, slice_get-get_or, slice_get_within}
 use Rattle.gr_base.specs.Forests.{Forest, empty, tree, size}
+use Rattle.gr_base.proofs.ListLemmas.{slice_get-some}
 use Rattle.gr_terms.specs.Canonical.{Node}
 use Rattle.td_tree.specs.Trees.{BagPairs, node_of, preorder}
 use Rattle.td_tree.specs.declared.TreeNode.{TreeNode}
@@ -170,11 +171,6 @@ length-laid nodes f laid = ap length laid ∙ length-preorder 0 None f
 abbrev pub AllFrom : List TreeNode → ℕ → ℕ → Type 0
 AllFrom nodes at end = (r : ℕ) (x : TreeNode) → at < r → r < end → slice_get nodes r ≡ Some x → IsFrom at x.parent
 
-pub some_at : {A : Type 0} (xs : List A) (k : ℕ) → k < length xs → (x : A) × (slice_get xs k ≡ Some x)
-some_at [] k l = absurd (omega arith)
-some_at (y ∷ ys) zero l = (y, refl)
-some_at (y ∷ ys) (suc k) l = some_at ys k (omega arith)
-
 laid_at : (nodes : List TreeNode) (f : Forest (Node BagPairs)) (k : ℕ) (x : TreeNode) → AreLaid nodes f → slice_get nodes k ≡ Some x → NodeAt 0 (preorder 0 None f) k x
 laid_at nodes f k x laid e = subst (λ xs. NodeAt 0 xs k x) laid (node_at 0 k k nodes x (omega arith) e)
 
@@ -189,8 +185,8 @@ tree_ends nodes at end here some high all next f laid =
     let top : r.0 ≤ 0 + size f = w.high in
     elim (cases_order end r.0) [
       | inl e ↦ subst (λ k. IsTreeAt 0 f at k) (sym e) r.1
-      | inr (inl l) ↦ let x = some_at nodes end (omega arith) in absurd (next x.0 x.1 (inside 0 None f at r.0 end x.0 r.1 (laid_at nodes f end x.0 laid x.1) some l))
-      | inr (inr l) ↦ let x = some_at nodes r.0 (omega arith) in absurd (behind_not 0 None f at r.0 x.0 tt r.1 (laid_at nodes f r.0 x.0 laid x.1) (all r.0 x.0 low l x.1))
+      | inr (inl l) ↦ let x = slice_get-some nodes end (omega arith) in absurd (next x.0 x.1 (inside 0 None f at r.0 end x.0 r.1 (laid_at nodes f end x.0 laid x.1) some l))
+      | inr (inr l) ↦ let x = slice_get-some nodes r.0 (omega arith) in absurd (behind_not 0 None f at r.0 x.0 tt r.1 (laid_at nodes f r.0 x.0 laid x.1) (all r.0 x.0 low l x.1))
     ]
 
 -- none yet, and one more

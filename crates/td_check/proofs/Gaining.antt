@@ -2,10 +2,9 @@
 use Rattle.std.specs.Prelude.{◌≡◌, ℕ, suc, ◌+◌, ◌-◌, ◌*◌, ◌<◌, ◌≤◌, List, [], ◌∷◌, ◌++◌, map, length, take, drop, slice_get, Some, ◌↔◌, IsTrue, Bool, true, false, refl}
 use Rattle.std.specs.Bool.{OnTrue}
 use Rattle.std.proofs.Common.{ap, sym, ◌∙◌, subst, arith, append_assoc, length-append}
-use Rattle.std.proofs.lemmas.List.{append-nil, map-append, take_more, take_all, take-append-drop, length-take-le}
-use Rattle.std.proofs.lemmas.Option.{slice_get_within, get_or_from_slice_get}
+use Rattle.std.proofs.lemmas.List.{append-nil, map-append, take_all, take-append-drop, length-take-le}
 use Rattle.gr_base.specs.Lists.{Each}
-use Rattle.gr_base.proofs.ListLemmas.{Each-at, IsAmong-append_left, IsAmong-slice_get}
+use Rattle.gr_base.proofs.ListLemmas.{Each-at, IsAmong-append_left, IsAmong-slice_get, take-one_more}
 use Rattle.gr_terms.specs.Networks as net
 use Rattle.gr_terms.specs.Networks.{Agrees, put_assertion}
 use Rattle.gr_terms.specs.Views.{term_of, assertion_of, network_of}
@@ -151,9 +150,6 @@ length-network (e ∷ list) = ap suc (length-network list)
 length-first : {A : Type 0} (xs : List A) (k : ℕ) → k ≤ length xs → length (take k xs) ≡ k
 length-first xs k h = length-take-le k xs h
 
-first_items : {A : Type 0} (xs : List A) (k : ℕ) (x : A) → slice_get xs k ≡ Some x → take (k + 1) xs ≡ take k xs ++ x ∷ []
-first_items xs k x at = take_more xs k x (slice_get_within xs k x at) ∙ ap (λ q. take k xs ++ q ∷ []) (get_or_from_slice_get xs k x x at)
-
 module _ (vars slots : ℕ) (list : List Assertion) where
   -- the first k assertions, counted from the first numbers
   abbrev pub first_moved : ℕ → Net
@@ -161,7 +157,7 @@ module _ (vars slots : ℕ) (list : List Assertion) where
 
   first_more : (k : ℕ) (e : Assertion) → slice_get list k ≡ Some e → first_moved (k + 1) ≡ first_moved k ++ moved vars slots (assertion_of e ∷ [])
   first_more k e at =
-      ap (λ z. moved vars slots (network_of z)) (first_items list k e at)
+      ap (λ z. moved vars slots (network_of z)) (take-one_more list k e at)
       ∙ ap (λ z. moved vars slots z) (network_of-append (take k list) (e ∷ [])) ∙ moved-append vars slots (network_of (take k list)) (assertion_of e ∷ [])
 
   first_rest : (k : ℕ) (e : Assertion) → slice_get list k ≡ Some e

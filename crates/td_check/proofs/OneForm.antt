@@ -2,16 +2,18 @@
 use Rattle.std.specs.Prelude.{◌≡◌, ℕ, zero, suc, ◌+◌, ◌<◌, List, [], ◌∷◌, ◌++◌, map, length, slice_get, ◌⊎◌, ◌↔◌, ⊤, Some, refl}
 use Rattle.std.proofs.Common.{inl, inr, ap, ap₂, sym, ◌∙◌, subst, arith}
 use Rattle.std.proofs.lemmas.Option.{none-some, same_Some, slice_get_within}
+use Rattle.std.proofs.lemmas.List.{length-map}
 use Rattle.gr_base.specs.Lists.{IsAmong, Each, InByteOrder, IsBefore, gathered}
 use Rattle.gr_base.specs.Forests.{Forest, empty, tree, labels, map_forest, numbered, size, AreAlike}
 use Rattle.gr_base.proofs.Counting.{IsBefore-irreflexive}
-use Rattle.gr_base.proofs.ListLemmas.{Each-at, IsAmong-map, IsAmong-slice_get, IsAmong-append_left, IsAmong-append_right, IsAmong-gathered}
+use Rattle.gr_base.proofs.ListLemmas.{Each-at, IsAmong-map, IsAmong-slice_get, IsAmong-append_left, IsAmong-append_right, IsAmong-gathered, slice_get-mapped}
+use Rattle.gr_base.proofs.ForestLemmas.{labels-map}
 use Rattle.gr_terms.specs.Canonical.{Node, node_slots, Decorated, Literal, literal_terms, map_literal, Label, Pairs, IsMet, ListsSlot, ListsNode, IsCanonicalForm, tree_slots}
 use Rattle.gr_terms.specs.Networks.{Term, name, Assertion, AreLinked, same, HasValue}
 use Rattle.td_tree.specs.TreeNetworks.{Part, own_part, top_part, bottom_part, TreeSlot, at_node, at_interface, slots_at, tree_network, slotted}
 use Rattle.td_tree.proofs.TreeNetworkLemmas.{list_of, IsPairAt, value_pair, pair_value, same_terms, labels-numbered, count_from}
 use Rattle.td_check.specs.ModelTrees.{Beside, HaveAttributes, AreLists, of_node, of_interface, AreInLiterals, of_literal, StandsFor, in_list, in_literal, IsTreeOf, HasEachOnce}
-use Rattle.td_check.proofs.Telling.{OneOfThree, at_first, at_second, at_third, three_at, at_map, labels_map, length_map}
+use Rattle.td_check.proofs.Telling.{OneOfThree, at_first, at_second, at_third, three_at}
 
 -- ---- lists and forests side by side
 
@@ -165,7 +167,7 @@ module _ (text : ℕ → List ℕ) (N : List (Assertion ℕ ℕ)) (t : Decorated
       (IsAmong-gathered node_slots (labels t.nodes) n s (IsAmong-slice_get (labels t.nodes) b.0 n b.1) (IsAmong-slice_get (node_slots n) d.0 s d.1))
 
   slotted_labels : labels (slotted u).nodes ≡ map (λ (q : ℕ × Node (List (ℕ × Term ℕ))). slots_at q.0) (count_from 0 (labels u.nodes))
-  slotted_labels = labels_map (λ (q : ℕ × Node (List (ℕ × Term ℕ))). slots_at q.0) (numbered 0 u.nodes) ∙ ap (λ z. map (λ (q : ℕ × Node (List (ℕ × Term ℕ))). slots_at q.0) z) (labels-numbered 0 u.nodes)
+  slotted_labels = labels-map (λ (q : ℕ × Node (List (ℕ × Term ℕ))). slots_at q.0) (numbered 0 u.nodes) ∙ ap (λ z. map (λ (q : ℕ × Node (List (ℕ × Term ℕ))). slots_at q.0) z) (labels-numbered 0 u.nodes)
 
   part_among : (k : ℕ) (part : Part) → IsAmong (node_slots (slots_at k)) (at_node k part)
   part_among k own_part = inl refl
@@ -178,7 +180,7 @@ module _ (text : ℕ → List ℕ) (N : List (Assertion ℕ ℕ)) (t : Decorated
       IsAmong-append_left (gathered node_slots (labels (slotted u).nodes)) (at_interface ∷ []) (at_node k part)
       (IsAmong-gathered node_slots (labels (slotted u).nodes) (slots_at k) (at_node k part)
       (IsAmong-slice_get (labels (slotted u).nodes) k (slots_at k)
-      (ap (λ z. slice_get z k) slotted_labels ∙ at_map (λ (q : ℕ × Node (List (ℕ × Term ℕ))). slots_at q.0) (count_from 0 (labels u.nodes)) k (k, h.0) (counted_at 0 k k (labels u.nodes) h.0 (omega arith) h.1)))
+      (ap (λ z. slice_get z k) slotted_labels ∙ slice_get-mapped (λ (q : ℕ × Node (List (ℕ × Term ℕ))). slots_at q.0) (count_from 0 (labels u.nodes)) k (k, h.0) (counted_at 0 k k (labels u.nodes) h.0 (omega arith) h.1)))
       (part_among k part))
 
   same_literals : map (map_literal one.label) t.literals ≡ map (map_literal two.label) u.literals
@@ -200,10 +202,10 @@ module _ (text : ℕ → List ℕ) (N : List (Assertion ℕ ℕ)) (t : Decorated
       let i = b.0 in
       let same : map_literal one.label l ≡ map_literal two.label k =
       same_Some (map_literal one.label l) (map_literal two.label k)
-      (sym (at_map (map_literal one.label) t.literals i l b.1) ∙ ap (λ z. slice_get z i) same_literals ∙ at_map (map_literal two.label) u.literals i k b.2) in
+      (sym (slice_get-mapped (map_literal one.label) t.literals i l b.1) ∙ ap (λ z. slice_get z i) same_literals ∙ slice_get-mapped (map_literal two.label) u.literals i k b.2) in
       record {
         labels_are = same_Some (one.label x) (two.label w)
-            (sym (at_map one.label (literal_terms l) d.0 x d.1) ∙ ap (λ (z : Literal Label). slice_get (literal_terms z) d.0) same ∙ at_map two.label (literal_terms k) d.0 w d.2);
+            (sym (slice_get-mapped one.label (literal_terms l) d.0 x d.1) ∙ ap (λ (z : Literal Label). slice_get (literal_terms z) d.0) same ∙ slice_get-mapped two.label (literal_terms k) d.0 w d.2);
         met = inr (IsAmong-gathered literal_terms t.literals l x (IsAmong-slice_get t.literals i l b.1) (IsAmong-slice_get (literal_terms l) d.0 x d.1));
         found = inr (IsAmong-gathered literal_terms u.literals k w (IsAmong-slice_get u.literals i k b.2) (IsAmong-slice_get (literal_terms k) d.0 w d.2));
       }
@@ -227,7 +229,7 @@ module _ (text : ℕ → List ℕ) (N : List (Assertion ℕ ℕ)) (t : Decorated
     where
       counted : (f : Term ℕ → Label) (ls : List (Literal (Term ℕ))) → map (λ (l : Literal Label). length l.args) (map (map_literal f) ls) ≡ map (λ (l : Literal (Term ℕ)). length l.args) ls
       counted f [] = refl
-      counted f (l ∷ ls) = ap₂ (λ a b. a ∷ b) (length_map f l.args) (counted f ls)
+      counted f (l ∷ ls) = ap₂ (λ a b. a ∷ b) (length-map l.args f) (counted f ls)
 
   pub one_form : IsTreeOf N t u
   one_form = record {

@@ -5,14 +5,13 @@ use Rattle.std.proofs.lemmas.Bool.{cases_lt, cases_eq}
 use Rattle.std.proofs.lemmas.Option.{none-some, same_Some, slice_get_within}
 use Rattle.gr_base.specs.Lists.{IsAmong, Each, IsRising, NoneTwice}
 use Rattle.gr_base.specs.Forests.{Forest, empty, tree, labels, size}
-use Rattle.gr_base.proofs.ListLemmas.{Each-at, Each-members, IsAmong-slice_get, slice_get-IsAmong}
+use Rattle.gr_base.proofs.ListLemmas.{Each-at, Each-members, IsAmong-slice_get, slice_get-IsAmong, slice_get-some}
 use Rattle.td_forest.specs.Nodes.{IsIn, IsForestOf}
 use Rattle.td_forest.proofs.SetLemmas.{eqb-same, eqb-other}
 use Rattle.td_forest.proofs.Twins.{AllOnce, AllRise}
 use Rattle.td_forest.proofs.Forming.{of_below, below_of}
 use Rattle.td_check.specs.Sets.{SendsTo, sent_from, sent_to, sets_from, sets_of, IsOnto}
 use Rattle.td_check.specs.Places.{set_list}
-use Rattle.td_check.proofs.Ends.{some_at}
 
 -- ---- the nodes that are sent to a number
 
@@ -169,7 +168,7 @@ onto_forest map m f onto = below_of m (sets_of map f) (record {
     (λ i. let r = in_sets 0 map f x i in let l : x < length map = slice_get_within map x r.to r.sends in let e : length map ≡ m = onto.number in omega arith),
     (λ l.
         let e : length map ≡ m = onto.number in
-        let p = some_at map x (omega arith) in
+        let p = slice_get-some map x (omega arith) in
         let w : p.0 < size f = Each-at (λ t. t < size f) map p.0 onto.within (IsAmong-slice_get map x p.0 p.1) in
         sets_in 0 map f x p.0 p.1 (omega arith) (omega arith)),
   );

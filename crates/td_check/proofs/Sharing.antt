@@ -2,11 +2,12 @@
 use Rattle.std.specs.Prelude.{◌≡◌, ℕ, zero, suc, ◌+◌, ◌-◌, ◌*◌, ◌<◌, ◌≤◌, List, [], ◌∷◌, ◌++◌, map, length, take, drop, slice_get, ◌==◌, if◌then◌else◌, Some, None, Option, ◌↔◌, Bool, true, IsTrue, refl}
 use Rattle.std.proofs.Common.{inl, inr, ap, ap₂, sym, ◌∙◌, subst, arith, append_assoc, length-append, get_or}
 use Rattle.std.proofs.lemmas.Bool.{cases_lt, cases_eq}
-use Rattle.std.proofs.lemmas.List.{append-nil, map-append, take_more, take_all, take-append-drop, length-take-le}
-use Rattle.std.proofs.lemmas.Option.{none-some, same_Some, slice_get_within, slice_get-get_or, get_or_from_slice_get}
+use Rattle.std.proofs.lemmas.List.{append-nil, map-append, take_all, take-append-drop, length-take-le}
+use Rattle.std.proofs.lemmas.Option.{none-some, same_Some, slice_get_within, slice_get-get_or}
 use Rattle.std.specs.Bool.{OnTrue}
 use Rattle.gr_base.specs.Lists.{Each, gathered}
-use Rattle.gr_base.proofs.ListLemmas.{Each-at, IsAmong-slice_get}
+use Rattle.gr_base.proofs.ListLemmas.{Each-at, IsAmong-slice_get, take-one_more}
+use Rattle.gr_base.proofs.Gathering.{gathered-append}
 use Rattle.gr_terms.specs.Networks as net
 use Rattle.gr_terms.specs.Networks.{Assertion, Agrees, put_assertion, put_network}
 use Rattle.gr_terms.specs.Views.{network_of}
@@ -122,9 +123,6 @@ sent-split to x y (s ∷ xs) ys e = elim (cases_eq s to) [
       ∙ ap (λ z. z ++ sent_from y to ys) (sym (sent_other x to s xs ne))
 ]
 
-first_items : {A : Type 0} (xs : List A) (k : ℕ) (x : A) → slice_get xs k ≡ Some x → take (k + 1) xs ≡ take k xs ++ x ∷ []
-first_items xs k x at = take_more xs k x (slice_get_within xs k x at) ∙ ap (λ q. take k xs ++ q ∷ []) (get_or_from_slice_get xs k x x at)
-
 length_first : (map : List ℕ) (k : ℕ) → k < length map → k ≡ 0 + length (take k map)
 length_first map k l = let e : length (take k map) ≡ k = length-take-le k map (omega arith) in omega arith
 
@@ -173,7 +171,7 @@ module _ (slots : ℕ) (nodes : List (described.DescribedNode ℕ)) (map : List 
 
   pub set_more : (k s : ℕ) → slice_get map k ≡ Some s → set_moved (k + 1) ≡ set_moved k ++ next_moved k s
   set_more k s at =
-      ap (λ z. moved 0 slots (links_from nodes to head 0 z)) (first_items map k s at)
+      ap (λ z. moved 0 slots (links_from nodes to head 0 z)) (take-one_more map k s at)
       ∙ ap (λ z. moved 0 slots z) (links-split {V = ℕ} nodes to head 0 k (take k map) (s ∷ []) (length_first map k (slice_get_within map k s at)) ∙ ap (λ z. links_from {V = ℕ} nodes to head 0 (take k map) ++ z) (one_link k s))
       ∙ moved-append 0 slots (links_from {V = ℕ} nodes to head 0 (take k map)) (next_links {V = ℕ} nodes to head k s)
 
@@ -305,10 +303,6 @@ length_sets nodes (xs ∷ xss) =
     let c : length (set_links {V = ℕ} nodes xs ++ gathered (set_links {V = ℕ} nodes) xss) ≡ length (set_links {V = ℕ} nodes xs) + length (gathered (set_links {V = ℕ} nodes) xss) =
     length-append (set_links {V = ℕ} nodes xs) (gathered (set_links {V = ℕ} nodes) xss) in
     omega (arith, a, b, c)
-
-gathered-append : {A B : Type 0} (f : A → List B) (xs ys : List A) → gathered f (xs ++ ys) ≡ gathered f xs ++ gathered f ys
-gathered-append f [] ys = refl
-gathered-append f (x ∷ xs) ys = ap (λ z. f x ++ z) (gathered-append f xs ys) ∙ sym (append_assoc (f x) (gathered f xs) (gathered f ys))
 
 set_list-rest : (map : List ℕ) (n k j : ℕ) → set_list map n (k + j) ≡ set_list map n k ++ set_list map (n + k) j
 set_list-rest map n zero j = let a : zero + j ≡ j = omega arith in let b : n ≡ n + zero = omega arith in ap₂ (λ x y. set_list map x y) b a

@@ -1,11 +1,12 @@
 -- A tree beside the model's tree: what the code finds of the store's network is what is said of the merged network.
 use Rattle.std.specs.Prelude.{◌≡◌, ℕ, zero, suc, ◌+◌, ◌<◌, ◌≤◌, List, [], ◌∷◌, ◌++◌, map, length, slice_get, slice_index, ◌⊎◌, ◌↔◌, ⊤, Option, Some, None, refl}
 use Rattle.std.proofs.Common.{inl, inr, ap, ap₂, sym, ◌∙◌, subst, arith, get_or}
-use Rattle.std.proofs.lemmas.List.{map-append}
+use Rattle.std.proofs.lemmas.List.{map-append, length-map}
 use Rattle.std.proofs.lemmas.Option.{none-some, same_Some, slice_get_within}
 use Rattle.gr_base.specs.Lists.{IsAmong}
 use Rattle.gr_base.specs.Forests.{Forest, empty, tree, labels, map_forest, size, AreAlike}
-use Rattle.gr_base.proofs.ListLemmas.{IsAmong-map, IsAmong-map_from, slice_get-IsAmong, IsAmong-slice_get}
+use Rattle.gr_base.proofs.ListLemmas.{IsAmong-map, IsAmong-map_from, slice_get-IsAmong, IsAmong-slice_get, slice_get-mapped}
+use Rattle.gr_base.proofs.ForestLemmas.{labels-map}
 use Rattle.gr_terms.specs.Canonical.{Node, node_slots, Decorated, Literal, literal_terms}
 use Rattle.gr_terms.specs.Networks.{Term, name, Assertion, AreLinked, next, back, same, HasValue, Agrees}
 use Rattle.gr_terms.specs.Views.{term_of, network_of}
@@ -36,11 +37,6 @@ use Rattle.td_check.proofs.Passing.{Respects, values_linked, beside_respects, fi
 
 -- ---- lists of what a function gives
 
-pub at_map : {A B : Type 0} (h : A → B) (xs : List A) (k : ℕ) (a : A) → slice_get xs k ≡ Some a → slice_get (map h xs) k ≡ Some (h a)
-at_map h [] k a e = absurd (none-some a e)
-at_map h (x ∷ xs) zero a e = ap (λ z. Some (h z)) (same_Some x a e)
-at_map h (x ∷ xs) (suc k) a e = at_map h xs k a e
-
 record MapAt {A B : Type 0} (h : A → B) (xs : List A) (k : ℕ) (b : B) : Type 0 where
   pub from : A
   pub at : slice_get xs k ≡ Some from
@@ -50,14 +46,6 @@ map_at : {A B : Type 0} (h : A → B) (xs : List A) (k : ℕ) (b : B) → slice_
 map_at h [] k b e = absurd (none-some b e)
 map_at h (x ∷ xs) zero b e = record { from = x; at = refl; is = sym (same_Some (h x) b e) }
 map_at h (x ∷ xs) (suc k) b e = let r = map_at h xs k b e in record { from = r.from; at = r.at; is = r.is }
-
-pub labels_map : {A B : Type 0} (h : A → B) (F : Forest A) → labels (map_forest h F) ≡ map h (labels F)
-labels_map h empty = refl
-labels_map h (tree a kids more) = ap (λ zs. h a ∷ zs) (ap₂ (λ xs ys. xs ++ ys) (labels_map h kids) (labels_map h more) ∙ sym (map-append h (labels kids) (labels more)))
-
-pub length_map : {A B : Type 0} (h : A → B) (xs : List A) → length (map h xs) ≡ length xs
-length_map h [] = refl
-length_map h (x ∷ xs) = ap suc (length_map h xs)
 
 map_map : {A B C : Type 0} (h : B → C) (g : A → B) (xs : List A) → map h (map g xs) ≡ map (λ x. h (g x)) xs
 map_map h g [] = refl
@@ -132,11 +120,11 @@ module _ (d : Description) (t : Tree) (sends : List ℕ) (f : Forest (Node BagPa
 
   found_labels : labels Found.nodes ≡ map (λ (n : TreeNode). lists_of (bags_of n)) t.nodes
   found_labels =
-      labels_map lists_of f ∙ ap (λ z. map lists_of z) (sym (bags_laid 0 None f) ∙ ap (λ z. map bags_of z) (sym laid))
+      labels-map lists_of f ∙ ap (λ z. map lists_of z) (sym (bags_laid 0 None f) ∙ ap (λ z. map bags_of z) (sym laid))
       ∙ map_map lists_of bags_of t.nodes
 
   model_labels : labels Model.nodes ≡ map (slots_at (description_of d).nodes d.iface.0) (set_list sends 0 (size f))
-  model_labels = labels_map (slots_at (description_of d).nodes d.iface.0) (sets_of sends f) ∙ ap (λ z. map (slots_at (description_of d).nodes d.iface.0) z) (labels-sets 0 sends f)
+  model_labels = labels-map (slots_at (description_of d).nodes d.iface.0) (sets_of sends f) ∙ ap (λ z. map (slots_at (description_of d).nodes d.iface.0) z) (labels-sets 0 sends f)
 
   -- the slots of the description's node of a tree node
   head_slots : (k : ℕ) (m : DescribedNode) → k < length t.nodes → slice_get d.nodes (slice_index heads k) ≡ Some m → slice_get (labels Model.nodes) k ≡ Some (node_of m).slots
@@ -146,8 +134,8 @@ module _ (d : Description) (t : Tree) (sends : List ℕ) (f : Forest (Node BagPa
       let set = first_is 0 k (slice_index heads k) (slice_index heads k) sends (omega arith) first.sent first.least in
       let here : slice_get (set_list sends 0 (size f)) k ≡ Some (sent_to sends k) = set_at sends 0 (size f) k k (omega arith) (omega arith) in
       let slots : slots_at (description_of d).nodes d.iface.0 (sent_to sends k) ≡ (node_of m).slots =
-      ap (λ z. slots_at (description_of d).nodes d.iface.0 z) set.1 ∙ slots_first (description_of d).nodes d.iface.0 (slice_index heads k) set.0 (node_of m) (at_map node_of d.nodes (slice_index heads k) m e) in
-      ap (λ z. slice_get z k) model_labels ∙ at_map (slots_at (description_of d).nodes d.iface.0) (set_list sends 0 (size f)) k (sent_to sends k) here ∙ ap Some slots
+      ap (λ z. slots_at (description_of d).nodes d.iface.0 z) set.1 ∙ slots_first (description_of d).nodes d.iface.0 (slice_index heads k) set.0 (node_of m) (slice_get-mapped node_of d.nodes (slice_index heads k) m e) in
+      ap (λ z. slice_get z k) model_labels ∙ slice_get-mapped (slots_at (description_of d).nodes d.iface.0) (set_list sends 0 (size f)) k (sent_to sends k) here ∙ ap Some slots
 
   -- a slot of the description and the list of the tree that stands there
   data IsSpot (s : ℕ) (bag : BagPairs) : Type 0 where
@@ -191,7 +179,7 @@ module _ (d : Description) (t : Tree) (sends : List ℕ) (f : Forest (Node BagPa
   node_beside k n m e g = (
     k,
     head_slots k m (slice_get_within t.nodes k n e) g,
-    ap (λ z. slice_get z k) found_labels ∙ at_map (λ (n : TreeNode). lists_of (bags_of n)) t.nodes k n e,
+    ap (λ z. slice_get z k) found_labels ∙ slice_get-mapped (λ (n : TreeNode). lists_of (bags_of n)) t.nodes k n e,
   )
 
   lists_spot : (s : ℕ) (bag : BagPairs) → IsSpot s bag → AreLists Model Found s (pairs_of bag)
@@ -253,24 +241,24 @@ module _ (d : Description) (t : Tree) (sends : List ℕ) (f : Forest (Node BagPa
 
       same_number : length t.sem ≡ length d.sem
       same_number =
-          sym (length_map (λ (l : Literal (Term ℕ)). length l.args) (literals_of t.sem) ∙ length_map literal_of t.sem)
+          sym (length-map (literals_of t.sem) (λ (l : Literal (Term ℕ)). length l.args) ∙ length-map t.sem literal_of)
           ∙ sym (ap length told.literals)
-          ∙ length_map (λ (l : Literal (Term ℕ)). length l.args) (literals_of d.sem) ∙ length_map literal_of d.sem
+          ∙ length-map (literals_of d.sem) (λ (l : Literal (Term ℕ)). length l.args) ∙ length-map d.sem literal_of
 
       same_arguments : (i : ℕ) (k l : code_literal.Literal) → slice_get t.sem i ≡ Some k → slice_get d.sem i ≡ Some l → length k.args ≡ length l.args
       same_arguments i k l e g =
           let a : slice_get (map (λ (l : Literal (Term ℕ)). length l.args) (literals_of d.sem)) i ≡ Some (length (map term_of l.args)) =
-          at_map (λ (l : Literal (Term ℕ)). length l.args) (literals_of d.sem) i (literal_of l) (at_map literal_of d.sem i l g) in
+          slice_get-mapped (λ (l : Literal (Term ℕ)). length l.args) (literals_of d.sem) i (literal_of l) (slice_get-mapped literal_of d.sem i l g) in
           let b : slice_get (map (λ (l : Literal (Term ℕ)). length l.args) (literals_of t.sem)) i ≡ Some (length (map term_of k.args)) =
-          at_map (λ (l : Literal (Term ℕ)). length l.args) (literals_of t.sem) i (literal_of k) (at_map literal_of t.sem i k e) in
+          slice_get-mapped (λ (l : Literal (Term ℕ)). length l.args) (literals_of t.sem) i (literal_of k) (slice_get-mapped literal_of t.sem i k e) in
           let same : length (map term_of l.args) ≡ length (map term_of k.args) = same_Some (length (map term_of l.args)) (length (map term_of k.args)) (sym a ∙ ap (λ z. slice_get z i) told.literals ∙ b) in
-          sym (length_map term_of k.args) ∙ sym same ∙ length_map term_of l.args
+          sym (length-map k.args term_of) ∙ sym same ∙ length-map l.args term_of
 
       term_stands : (P : Term ℕ → Term ℕ → Type 0) → ((w x : Term ℕ) → StandsFor Merged Model Found w x → P w (later vars x)) → (i j : ℕ) (k l : code_literal.Literal) (w x : code_term.Term)
           → slice_get t.sem i ≡ Some k → slice_get d.sem i ≡ Some l → slice_get (literal_terms (literal_of l)) j ≡ Some (term_of x) → slice_get (literal_terms (literal_of k)) j ≡ Some (term_of w) → PassesTerm P vars w x
       term_stands P h i j k l w x e g p q =
           subst (λ z. P (term_of w) z) (sym (later-counted vars x))
-          (h (term_of w) (term_of x) (in_literal (of_literal (literal_of l) (literal_of k) (i, at_map literal_of d.sem i l g, at_map literal_of t.sem i k e) (j, p, q))))
+          (h (term_of w) (term_of x) (in_literal (of_literal (literal_of l) (literal_of k) (i, slice_get-mapped literal_of d.sem i l g, slice_get-mapped literal_of t.sem i k e) (j, p, q))))
 
       passes_stands : (P : Term ℕ → Term ℕ → Type 0) → ((w x : Term ℕ) → StandsFor Merged Model Found w x → P w (later vars x)) → Passes Loaded P d t heads vars slots
       passes_stands P h = record {
@@ -285,7 +273,7 @@ module _ (d : Description) (t : Tree) (sends : List ℕ) (f : Forest (Node BagPa
           number = same_arguments i k l e g;
           handle = term_stands P h i 0 k l k.handle l.handle e g refl refl;
           pred = term_stands P h i 1 k l k.pred l.pred e g refl refl;
-          args = λ j w p x q. term_stands P h i (suc (suc j)) k l w x e g (at_map term_of l.args j x q) (at_map term_of k.args j w p);
+          args = λ j w p x q. term_stands P h i (suc (suc j)) k l w x e g (slice_get-mapped term_of l.args j x q) (slice_get-mapped term_of k.args j w p);
         };
       }
 
@@ -362,7 +350,7 @@ module _ (d : Description) (t : Tree) (sends : List ℕ) (f : Forest (Node BagPa
           by [] (y ∷ ys) n each = absurd (omega arith)
           by (x ∷ xs) [] n each = absurd (omega arith)
           by (x ∷ xs) (y ∷ ys) n each =
-              ap₂ (λ a b. a ∷ b) (length_map term_of x.args ∙ sym (each 0 y x refl refl) ∙ sym (length_map term_of y.args))
+              ap₂ (λ a b. a ∷ b) (length-map x.args term_of ∙ sym (each 0 y x refl refl) ∙ sym (length-map y.args term_of))
               (by xs ys (omega arith) (λ i k l e g. each (suc i) k l e g))
 
       pub tree_found : IsTreeOf Merged Model Found

@@ -6,6 +6,7 @@ use Rattle.gr_base.specs.Lists.{IsAmong, gathered}
 use Rattle.gr_base.specs.Forests.{Forest, empty, tree, labels, AreAlike}
 use Rattle.gr_base.proofs.ListLemmas.{IsAmong-append, IsAmong-append_left, IsAmong-append_right, IsAmong-gathered, IsAmong-gathered_from}
 use Rattle.gr_base.proofs.ForestLemmas.{AreAlike-through}
+use Rattle.gr_base.proofs.Zips.{AllZip-second}
 use Rattle.gr_terms.specs.Networks.{Term, name, Assertion, put_term, same, back, next}
 use Rattle.gr_terms.specs.Canonical.{Node, Literal, Decorated, Pairs, Label, literal_terms, map_literal, node_slots, tree_slots, IsMet, IsExact, ListsSlot, ListsNode, IsCanonicalForm}
 use Rattle.gr_terms.proofs.NetworkLemmas.{AreLinked-put}
@@ -19,19 +20,6 @@ AllZip-turned P Q one [] [] h = tt
 AllZip-turned P Q one [] (y ∷ ys) h = absurd h
 AllZip-turned P Q one (x ∷ xs) [] h = absurd h
 AllZip-turned P Q one (x ∷ xs) (y ∷ ys) h = (one x y h.0, AllZip-turned P Q one xs ys h.1)
-
-pub AllZip-weaker : {A B : Type 0} (P Q : A → B → Type 0) → ((x : A) (y : B) → P x y → Q x y) → (xs : List A) (ys : List B) → AllZip P xs ys → AllZip Q xs ys
-AllZip-weaker P Q one [] [] h = tt
-AllZip-weaker P Q one [] (y ∷ ys) h = absurd h
-AllZip-weaker P Q one (x ∷ xs) [] h = absurd h
-AllZip-weaker P Q one (x ∷ xs) (y ∷ ys) h = (one x y h.0, AllZip-weaker P Q one xs ys h.1)
-
-pub AllZip-second : {A B : Type 0} (P : A → B → Type 0) (xs : List A) (ys : List B) (y : B) → AllZip P xs ys → IsAmong ys y → (x : A) × IsAmong xs x × P x y
-AllZip-second P [] [] y h i = absurd i
-AllZip-second P [] (z ∷ zs) y h i = absurd h
-AllZip-second P (x ∷ xs) [] y h i = absurd h
-AllZip-second P (x ∷ xs) (z ∷ zs) y h (inl e) = (x, inl refl, subst (λ w. P x w) (sym e) h.0)
-AllZip-second P (x ∷ xs) (z ∷ zs) y h (inr i) = let r = AllZip-second P xs zs y h.1 i in (r.0, inr r.1, r.2)
 
 pub AllZip-map_same : {A B C : Type 0} (P : A → B → Type 0) (f : A → C) (g : B → C) → ((x : A) (y : B) → P x y → f x ≡ g y) → (xs : List A) (ys : List B) → AllZip P xs ys → map f xs ≡ map g ys
 AllZip-map_same P f g one [] [] h = refl

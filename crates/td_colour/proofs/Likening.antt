@@ -7,6 +7,7 @@ use Rattle.std.proofs.lemmas.Slice.Zip.{AllZip-long}
 use Rattle.gr_base.specs.Lists.{IsAmong, IsWithin, IsListing, IsCount, gathered}
 use Rattle.gr_base.specs.Forests.{Forest, empty, tree, labels, map_forest, AreAlike}
 use Rattle.gr_base.proofs.ListLemmas.{Each-at, Each-members, IsAmong-append, IsAmong-append_left, IsAmong-append_right}
+use Rattle.gr_base.proofs.Zips.{AllZip-weaker}
 use Rattle.gr_terms.specs.Networks.{Term, Assertion, link, linked, AreLinkedSlots, back_slot, next_slot, put_assertion, Follows}
 use Rattle.gr_terms.specs.Interpretations.{Interprets}
 use Rattle.gr_terms.specs.Canonical.{Node, Literal, Decorated, Pairs, Label, literal_terms}
@@ -20,7 +21,7 @@ use Rattle.td_colour.specs.Relations.{Holds}
 use Rattle.td_colour.specs.Colours.{IsOf, IsLawful}
 use Rattle.td_colour.specs.Models.{node_links, set_links, merged_network, IsForestModel, IsMinimalModel, slots_at, model_tree, HasModelForm, IsModelSpelling}
 use Rattle.td_colour.proofs.Interpreting.{turned, slots_turned, terms_turned, widened, slots_widened, terms_widened}
-use Rattle.td_colour.proofs.Answering.{AllZip-turned, AllZip-weaker, AreThreeOf, AreTreesOf, form_there}
+use Rattle.td_colour.proofs.Answering.{AllZip-turned, AreThreeOf, AreTreesOf, form_there}
 
 -- both are there and answer each other, or neither is there
 abbrev AreBoth : {A B : Type 0} → (A → B → Type 0) → Option A → Option B → Type 0

@@ -1,11 +1,11 @@
 -- What a step of the last node adds to the network.
 use Rattle.std.specs.Prelude.{◌≡◌, ℕ, ◌-◌, ◌<◌, List, [], ◌∷◌, ◌++◌, map, ◌⊎◌, Bool, true, false, ◌==◌, if◌then◌else◌, Option, Some, None, slice_get, refl}
-use Rattle.std.proofs.Common.{inl, inr, ap, ap₂, sym, ◌∙◌, subst}
+use Rattle.std.proofs.Common.{inl, inr, ap, sym, ◌∙◌, subst}
 use Rattle.std.proofs.lemmas.Bool.{cases_eq}
 use Rattle.gr_base.specs.Lists.{IsAmong, IsWithin, gathered}
-use Rattle.gr_base.specs.Forests.{Forest, empty, tree, labels, map_forest}
+use Rattle.gr_base.specs.Forests.{Forest, empty, tree, labels}
 use Rattle.gr_base.proofs.ListLemmas.{IsAmong-append, IsAmong-append_left, IsAmong-append_right, IsAmong-map, IsAmong-gathered}
-use Rattle.gr_base.proofs.ForestLemmas.{labels-beside}
+use Rattle.gr_base.proofs.ForestLemmas.{labels-beside, labels-map}
 use Rattle.gr_terms.specs.Networks.{Assertion}
 use Rattle.td_desc.specs.Descriptions.{Description}
 use Rattle.td_forest.specs.declared.Step.{Step}
@@ -42,21 +42,13 @@ gathered_end f (z ∷ zs) x y i = elim (IsAmong-append (f z) (gathered f (zs ++ 
   | inr j ↦ elim (gathered_end f zs x y j) [ inl k ↦ inl (IsAmong-append_right (f z) (gathered f zs) y k) | inr k ↦ inr k ]
 ]
 
-map-both : {A B : Type 0} (g : A → B) (xs ys : List A) → map g (xs ++ ys) ≡ map g xs ++ map g ys
-map-both g [] ys = refl
-map-both g (x ∷ xs) ys = ap (λ zs. g x ∷ zs) (map-both g xs ys)
-
-labels-map : {A B : Type 0} (g : A → B) (F : Forest A) → labels (map_forest g F) ≡ map g (labels F)
-labels-map g empty = refl
-labels-map g (tree a kids more) = ap (λ zs. g a ∷ zs) (ap₂ (λ xs ys. xs ++ ys) (labels-map g kids) (labels-map g more) ∙ sym (map-both g (labels kids) (labels more)))
-
 -- an insertion makes a tree node of the new node alone
-single_inserted : (x from to : ℕ) (F : Forest (List ℕ)) → IsAmong (labels (inserted x from to F)) (x ∷ [])
+pub single_inserted : (x from to : ℕ) (F : Forest (List ℕ)) → IsAmong (labels (inserted x from to F)) (x ∷ [])
 single_inserted x from to F =
     subst (λ zs. IsAmong zs (x ∷ [])) (sym (labels-beside (first_trees from F) (tree (x ∷ []) (first_trees (to - from) (trees_behind from F)) (trees_behind to F))))
     (IsAmong-append_right (labels (first_trees from F)) (labels (tree (x ∷ []) (first_trees (to - from) (trees_behind from F)) (trees_behind to F))) (x ∷ []) (inl refl))
 
-single_under : (x u from to : ℕ) (F : Forest (List ℕ)) → AllOnce F → IsIn F u → IsAmong (labels (change_under u (inserted x from to) F)) (x ∷ [])
+pub single_under : (x u from to : ℕ) (F : Forest (List ℕ)) → AllOnce F → IsIn F u → IsAmong (labels (change_under u (inserted x from to) F)) (x ∷ [])
 single_under x u from to empty once i = absurd i
 single_under x u from to (tree set kids more) once (inl i) =
     rw (has_true u set i) (inr (IsAmong-append_left (labels (inserted x from to kids)) (labels more) (x ∷ []) (single_inserted x from to kids)))
@@ -67,7 +59,7 @@ single_under x u from to (tree set kids more) once (inr (inr i)) =
     rw (has_false u set (λ j. once.2 u j i))
     (inr (IsAmong-append_right (labels (change_under u (inserted x from to) kids)) (labels (change_under u (inserted x from to) more)) (x ∷ []) (single_under x u from to more once.5 i)))
 
-single_label : (x : ℕ) (under : Option ℕ) (from to : ℕ) (F : Forest (List ℕ)) → AllOnce F → IsStep F (Insert under from to) → IsAmong (labels (after_step x (Insert under from to) F)) (x ∷ [])
+pub single_label : (x : ℕ) (under : Option ℕ) (from to : ℕ) (F : Forest (List ℕ)) → AllOnce F → IsStep F (Insert under from to) → IsAmong (labels (after_step x (Insert under from to) F)) (x ∷ [])
 single_label x None from to F once step = single_inserted x from to F
 single_label x (Some u) from to F once step = single_under x u from to F once step.0
 

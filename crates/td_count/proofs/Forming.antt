@@ -14,18 +14,13 @@ use Rattle.td_canon.specs.CanonicalTexts.{IsCanonicalText, TellsAttributesApart}
 use Rattle.td_canon.specs.TreeText.{decorated_text}
 use Rattle.gr_base.specs.Decisions.{IsDecided, AreToldApart}
 use Rattle.gr_base.proofs.Deciding.{decided_number}
+use Rattle.gr_base.proofs.ForestLemmas.{labels-map}
+use Rattle.gr_base.proofs.Gathering.{gathered-read}
 use Rattle.gr_terms.proofs.Agreeing.{decided_slots, when, when_from, when_to}
 use Rattle.td_count.proofs.Sorting.{IsSorted, sorted}
 use Rattle.td_count.proofs.Labelling.{HasName, number, number-linked, label, label-linked, linked-label, label-name, Classes, classes}
 
 -- ---- lists and forests
-labels-map : {A B : Type 0} (f : A → B) (g : Forest A) → labels (map_forest f g) ≡ map f (labels g)
-labels-map f empty = refl
-labels-map f (tree a kids more) = ap (λ l. f a ∷ l) (ap₂ (λ x y. x ++ y) (labels-map f kids) (labels-map f more) ∙ sym (map-append f (labels kids) (labels more)))
-
-gathered-labelled : {A B C D : Type 0} (f : A → C) (g : C → List D) (h : A → List B) (l : B → D) → ((x : A) → g (f x) ≡ map l (h x)) → (xs : List A) → gathered g (map f xs) ≡ map l (gathered h xs)
-gathered-labelled f g h l e [] = refl
-gathered-labelled f g h l e (x ∷ xs) = ap₂ (λ a b. a ++ b) (e x) (gathered-labelled f g h l e xs) ∙ sym (map-append l (h x) (gathered h xs))
 
 alike-map : {A B : Type 0} (R : A → B → Type 0) (f : A → B) (g : Forest A) → ((a : A) → IsAmong (labels g) a → R a (f a)) → AreAlike R g (map_forest f g)
 alike-map R f empty h = tt
@@ -317,8 +312,8 @@ module _ {V S : Type 0} (variables : AreToldApart V) (slots : AreToldApart S) (t
     walked-form : walked form ≡ map the_label walk
     walked-form =
         ap₂ (λ l m. l ++ values (labelled the_label (listed t.interface)) ++ m)
-        (ap (gathered node_values) (labels-map form_node t.nodes) ∙ gathered-labelled form_node node_values node_terms the_label (λ n. node-labelled the_label (node_listed n)) (labels t.nodes))
-        (gathered-labelled (map_literal the_label) literal_terms literal_terms the_label (λ l. refl) t.literals)
+        (ap (gathered node_values) (labels-map form_node t.nodes) ∙ gathered-read form_node node_values node_terms the_label (λ n. node-labelled the_label (node_listed n)) (labels t.nodes))
+        (gathered-read (map_literal the_label) literal_terms literal_terms the_label (λ l. refl) t.literals)
         ∙ (ap (λ l. map the_label (gathered node_terms (labels t.nodes)) ++ l ++ map the_label (gathered literal_terms t.literals)) (values-labelled the_label (listed t.interface))
         ∙ map-three (gathered node_terms (labels t.nodes)) (values_in (listed t.interface)) (gathered literal_terms t.literals))
 

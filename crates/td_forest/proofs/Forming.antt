@@ -4,7 +4,7 @@ use Rattle.std.proofs.Common.{inl, inr, ap, sym, ◌∙◌, subst, append_assoc}
 use Rattle.std.proofs.lemmas.Bool.{cases_lt, cases_order}
 use Rattle.gr_base.specs.Lists.{IsAmong, NoneTwice, Each, joined}
 use Rattle.gr_base.specs.Forests.{Forest, empty, tree, labels}
-use Rattle.gr_base.proofs.ListLemmas.{IsAmong-append, IsAmong-append_left, IsAmong-append_right, Each-left, Each-right, Each-append}
+use Rattle.gr_base.proofs.ListLemmas.{IsAmong-append, IsAmong-append_left, IsAmong-append_right, Each-left, Each-right, Each-append, NoneTwice-append}
 use Rattle.td_forest.specs.declared.Relation.{Relation}
 use Rattle.td_forest.specs.declared.Relation.TheVariants.{Same, Over, Under, Left, Right}
 use Rattle.td_forest.specs.Nodes.{Stands, IsIn, IsNodeSet, IsForest, IsForestOf, Relates}
@@ -18,11 +18,6 @@ use Rattle.td_forest.proofs.SpanLemmas.{span_of, span_same, span_over, span_left
 joined-append : {A : Type 0} (xs ys : List (List A)) → joined (xs ++ ys) ≡ joined xs ++ joined ys
 joined-append [] ys = refl
 joined-append (x ∷ xs) ys = ap (λ zs. x ++ zs) (joined-append xs ys) ∙ sym (append_assoc x (joined xs) (joined ys))
-
-NoneTwice-both : {A : Type 0} (xs ys : List A) → NoneTwice xs → NoneTwice ys → ((x : A) → IsAmong xs x → IsAmong ys x → ⊥) → NoneTwice (xs ++ ys)
-NoneTwice-both [] ys a b apart = b
-NoneTwice-both (x ∷ xs) ys a b apart =
-    ((λ i. elim (IsAmong-append xs ys x i) [ inl j ↦ a.0 j | inr j ↦ apart x (inl refl) j ]), NoneTwice-both xs ys a.1 b (λ y i j. apart y (inr i) j))
 
 record AreApart {A : Type 0} (xs ys : List A) : Type 0 where
   pub left : NoneTwice xs
@@ -79,8 +74,8 @@ in_once : (F : Forest (List ℕ)) → AllOnce F → NoneTwice (nodes_of F)
 in_once empty h = tt
 in_once (tree set kids more) h =
     subst (λ zs. NoneTwice zs) (sym (nodes_of-tree set kids more))
-    (NoneTwice-both (set ++ nodes_of kids) (nodes_of more)
-    (NoneTwice-both set (nodes_of kids) h.0 (in_once kids h.4) (λ y i j. h.1 y i (among_in kids y j)))
+    (NoneTwice-append (set ++ nodes_of kids) (nodes_of more)
+    (NoneTwice-append set (nodes_of kids) h.0 (in_once kids h.4) (λ y i j. h.1 y i (among_in kids y j)))
     (in_once more h.5)
     (λ y i j. elim (IsAmong-append set (nodes_of kids) y i) [ inl k ↦ h.2 y k (among_in more y j) | inr k ↦ h.3 y (among_in kids y k) (among_in more y j) ]))
 

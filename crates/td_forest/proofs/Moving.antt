@@ -179,7 +179,7 @@ moved_next b i from to base q = elim (cases_eq i b) [
   | inr ne ↦ moved_other (suc b) (suc i) from to base q (λ e. ne (omega arith)) ∙ ap next_number (sym (moved_other b i from to base q ne))
 ]
 
-set_is : (set : List ℕ) (u : ℕ) (h : (s : List ℕ) × (◌≡◌ {A = Option (List ℕ)} (Some set) (Some s)) × IsAmong s u) → IsAmong set u
+pub set_is : (set : List ℕ) (u : ℕ) (h : (s : List ℕ) × (◌≡◌ {A = Option (List ℕ)} (Some set) (Some s)) × IsAmong s u) → IsAmong set u
 set_is set u h = let e : Some set ≡ Some h.0 = h.1 in let s : h.0 ≡ set = cc in subst (λ zs. IsAmong zs u) s h.2
 
 module _ (x u from to : ℕ) (le : from ≤ to) where

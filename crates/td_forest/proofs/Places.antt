@@ -1,7 +1,7 @@
 -- Arrays of places, and what the calls make of them.
 use Rattle.std.specs.Prelude.{◌≡◌, ◌≢◌, ℕ, zero, suc, ◌+◌, ◌-◌, ◌<◌, ◌≤◌, List, [], ◌∷◌, ◌++◌, ◌⊎◌, ⊤, Bool, true, false, Option, Some, None, length, refl}
 use Rattle.std.proofs.Common.{inl, inr, subst, sym, ◌∙◌, arith, get_or, set, add-one}
-use Rattle.std.proofs.lemmas.Bool.{cases_eq}
+use Rattle.std.proofs.lemmas.Bool.{cases_eq, false_from_ne_true}
 use Rattle.std.proofs.lemmas.List.{get_or-set_same, get_or-set_other}
 use Rattle.gr_base.specs.Lists.{IsAmong}
 use Rattle.gr_base.specs.Forests.{Forest, empty, tree, size}
@@ -99,13 +99,9 @@ free_unset [] k h e = omega arith
 free_unset (b ∷ bs) zero h e = rw e (omega arith)
 free_unset (b ∷ bs) (suc k) h e = let r : free (set bs k false) ≡ free bs + 1 = free_unset bs k (omega arith) e in omega arith
 
-bool_false : (b : Bool) → (b ≡ true → ⊥) → b ≡ false
-bool_false true h = absurd (h refl)
-bool_false false h = refl
-
 -- a node that is not there is marked so
 pub here_false : (F : Forest (List ℕ)) (here : List Bool) (first behind : List ℕ) (y : ℕ) → ArePlaces F here first behind → (IsIn F y → ⊥) → get_or here y false ≡ false
-here_false F here first behind y p new = bool_false (get_or here y false) (λ e. new (p.only y e))
+here_false F here first behind y p new = false_from_ne_true (get_or here y false) (λ e. new (p.only y e))
 
 -- a node more
 pub places_put : (F G : Forest (List ℕ)) (here : List Bool) (first behind : List ℕ) (x p q : ℕ) → x < 24 → length here ≡ 24 → length first ≡ 24 → length behind ≡ 24

@@ -1,10 +1,11 @@
 -- The sets of a forest and its nodes, and what a step makes of the sets.
 use Rattle.std.specs.Prelude.{◌≡◌, ℕ, ◌<◌, List, [], ◌∷◌, ◌++◌, ◌⊎◌, refl}
-use Rattle.std.proofs.Common.{inl, inr, ap, sym, ◌∙◌, subst, arith, append_assoc}
+use Rattle.std.proofs.Common.{inl, inr, ap, sym, ◌∙◌, subst, arith}
 use Rattle.gr_base.specs.Lists.{IsAmong, IsWithin, Each, IsRising, gathered}
 use Rattle.gr_base.specs.Forests.{Forest, empty, tree, labels}
 use Rattle.gr_base.proofs.ListLemmas.{IsAmong-append, IsAmong-append_left, IsAmong-append_right, Each-left, Each-right, Each-append}
 use Rattle.gr_base.proofs.ForestLemmas.{labels-beside}
+use Rattle.gr_base.proofs.Gathering.{gathered-append}
 use Rattle.td_forest.specs.Nodes.{IsIn}
 use Rattle.td_forest.specs.Steps.{first_trees, trees_behind, put}
 use Rattle.td_forest.specs.Spots.{Spot, join, wrap, down, along, after, IsSpot}
@@ -108,10 +109,6 @@ module _ (P : List ℕ → Type 0) (x : ℕ) where
     Each-append P (labels kids) (labels (after x s more)) (Each-left P (labels kids) (labels more) e.1)
         (sets_after s more at (Each-right P (labels kids) (labels more) e.1) (λ set l i. new set (inr (IsAmong-append_right (labels kids) (labels (after x s more)) set l)) i)),
   )
-
-gathered-append : {A B : Type 0} (f : A → List B) (xs ys : List A) → gathered f (xs ++ ys) ≡ gathered f xs ++ gathered f ys
-gathered-append f [] ys = refl
-gathered-append f (x ∷ xs) ys = ap (λ zs. f x ++ zs) (gathered-append f xs ys) ∙ sym (append_assoc (f x) (gathered f xs) (gathered f ys))
 
 within_both : {A : Type 0} (a b c d : List A) → IsWithin a c → IsWithin b d → IsWithin (a ++ b) (c ++ d)
 within_both a b c d f g x i = elim (IsAmong-append a b x i) [ inl j ↦ IsAmong-append_left c d x (f x j) | inr j ↦ IsAmong-append_right c d x (g x j) ]

@@ -124,7 +124,7 @@ module _ (F : Forest (List ℕ)) (here : List Bool) (first behind : List ℕ) (o
   no_place k A low none = absurd (some_there k low none)
 
 -- what stands over a place
-length-parents : {A : Type 0} (up : Option ℕ) (n : ℕ) (F : Forest A) → length (parents up n F) ≡ size F
+pub length-parents : {A : Type 0} (up : Option ℕ) (n : ℕ) (F : Forest A) → length (parents up n F) ≡ size F
 length-parents up n empty = refl
 length-parents up n (tree a kids more) =
     let k : length (parents (Some n) (n + 1) kids) ≡ size kids = length-parents (Some n) (n + 1) kids in

@@ -8,7 +8,7 @@ use Rattle.td_forest.specs.Nodes.{IsIn, Relates}
 use Rattle.td_forest.proofs.Twins.{AllOnce}
 use Rattle.td_forest.specs.Steps.{width, first_trees, trees_behind, kids_of, forest_of, trees_of}
 use Rattle.td_forest.specs.Spans.{IsSpan, StartsAt, IsTreeEnd, ArePlaces, IsGreatest, IsRange, IsCounted}
-use Rattle.td_forest.proofs.SpanLemmas.{span_within, span_unique}
+use Rattle.td_forest.proofs.SpanLemmas.{span_within, span_unique, span_in}
 use Rattle.td_forest.proofs.Named.{has_true, has_false, has_in_true, has_in_false, has_kids, starts_self}
 use Rattle.td_forest.proofs.Places.{AllFull, starts_skip, next_tree, NextTree}
 use Rattle.td_forest.proofs.Exclusive.{relates_once}
@@ -19,12 +19,6 @@ pub relates_test : (F : Forest (List ℕ)) (x y : ℕ) (r s : Relation) (b : Boo
 relates_test F x y r s b once i j h f g =
     ((λ e. subst (λ q. Relates F x y q) (f e) h), (λ k. g (relates_once F x y r s once i j (by_recursion F x y r h) (by_recursion F x y s k))))
 
-span_there : (n : ℕ) (F : Forest (List ℕ)) (y b e : ℕ) → IsSpan n F y b e → IsIn F y
-span_there n empty y b e h = h
-span_there n (tree set kids more) y b e (inl h) = inl h.0
-span_there n (tree set kids more) y b e (inr (inl h)) = inr (inl (span_there (n + 1) kids y b e h))
-span_there n (tree set kids more) y b e (inr (inr h)) = inr (inr (span_there (n + 1 + size kids) more y b e h))
-
 at_least : (a b : ℕ) → a ≤ b → ((0 < b) → b ≤ a) → a ≡ b
 at_least a zero low high = omega arith
 at_least a (suc b) low high = let h : suc b ≤ a = high (omega arith) in omega arith
@@ -34,10 +28,10 @@ pub kids_end : (n : ℕ) (F : Forest (List ℕ)) (u b e : ℕ) → AllOnce F →
 kids_end n empty u b e once i h = absurd h
 kids_end n (tree set kids more) u b e once i (inl h) = let p = h.1 in let q = h.2 in rw (has_true u set h.0) (let a : b ≡ n = p in let c : e ≡ n + 1 + size kids = q in omega arith)
 kids_end n (tree set kids more) u b e once i (inr (inl h)) =
-    let there = span_there (n + 1) kids u b e h in
+    let there = span_in (n + 1) kids u b e h in
     rw (has_false u set (λ j. once.1 u j there), has_in_true u kids there) (kids_end (n + 1) kids u b e once.4 there h)
 kids_end n (tree set kids more) u b e once i (inr (inr h)) =
-    let there = span_there (n + 1 + size kids) more u b e h in
+    let there = span_in (n + 1 + size kids) more u b e h in
     rw (has_false u set (λ j. once.2 u j there), has_in_false u kids (λ j. once.3 u j there)) (kids_end (n + 1 + size kids) more u b e once.5 there h)
 
 -- the last root of a forest ends it
@@ -67,7 +61,7 @@ greatest_size F here first behind most once full pl g =
     ] in
     let high : (0 < size F) → size F ≤ most = λ some. (
     let l = has_last 0 F full some in
-    let i = span_there 0 F l.node l.first (0 + size F) l.is in
+    let i = span_in 0 F l.node l.first (0 + size F) l.is in
     let u = span_unique 0 F l.node (get_or first l.node 0) (get_or behind l.node 0) l.first (0 + size F) once (pl.spans l.node i) l.is in
     let e : get_or behind l.node 0 ≡ 0 + size F = u.1 in
     let h : get_or behind l.node 0 ≤ most = g.high l.node (pl.low l.node i) (pl.there l.node i) in

@@ -1,16 +1,17 @@
 -- Tree nodes that have the right parents and bags are a tree in preorder.
 use Rattle.std.specs.Prelude.{◌≡◌, ℕ, suc, ◌+◌, List, [], ◌∷◌, ◌++◌, length, take, drop, Option, Some, None, slice_get, refl}
 use Rattle.std.specs.List.{AllZip}
-use Rattle.std.proofs.Common.{ap, ap₂, sym, ◌∙◌, subst, arith, add-one, length-append}
+use Rattle.std.proofs.Common.{ap, ap₂, sym, ◌∙◌, subst, arith, add-one}
 use Rattle.std.proofs.lemmas.List.{take-append-drop}
 use Rattle.std.proofs.lemmas.Option.{same_Some}
-use Rattle.gr_base.specs.Forests.{Forest, empty, tree, labels, map_forest, size, AreAlike, IsOneTree}
-use Rattle.gr_base.proofs.ForestLemmas.{length-labels, size-alike}
+use Rattle.gr_base.specs.Forests.{Forest, empty, tree, labels, map_forest, size, AreAlike}
+use Rattle.gr_base.proofs.ForestLemmas.{length-labels, size-alike, size-map}
 use Rattle.gr_terms.specs.Canonical.{Node}
 use Rattle.gr_terms.specs.Networks as net
 use Rattle.td_tree.specs.Trees.{BagPairs, node_of, preorder}
 use Rattle.td_tree.specs.declared.TreeNode.{TreeNode}
 use Rattle.td_forest.specs.Walks.{parents}
+use Rattle.td_forest.proofs.Walking.{length-parents}
 use Rattle.td_desc.specs.Descriptions.{Description}
 use Rattle.td_colour.specs.Models.{slots_at}
 use Rattle.td_model.specs.CanonicalTrees.{HasBags}
@@ -18,24 +19,10 @@ use Rattle.td_model.specs.Reading.{AreModelNodes}
 
 -- ---- forests with other labels
 
-size-map : {A B : Type 0} (f : A → B) (F : Forest A) → size (map_forest f F) ≡ size F
-size-map f empty = refl
-size-map f (tree a kids more) = ap₂ (λ m n. suc (m + n)) (size-map f kids) (size-map f more)
-
 parents-map : {A B : Type 0} (f : A → B) (up : Option ℕ) (n : ℕ) (F : Forest A) → parents up n (map_forest f F) ≡ parents up n F
 parents-map f up n empty = refl
 parents-map f up n (tree a kids more) =
     ap₂ (λ ps qs. up ∷ ps ++ qs) (parents-map f (Some n) (n + 1) kids) (ap (λ k. parents up (n + 1 + k) (map_forest f more)) (size-map f kids) ∙ parents-map f up (n + 1 + size kids) more)
-
-pub one_tree-map : {A B : Type 0} (f : A → B) (F : Forest A) → IsOneTree F → IsOneTree (map_forest f F)
-one_tree-map f empty h = h
-one_tree-map f (tree a kids empty) h = h
-one_tree-map f (tree a kids (tree b others more)) h = h
-
-length-parents : {A : Type 0} (up : Option ℕ) (n : ℕ) (F : Forest A) → length (parents up n F) ≡ size F
-length-parents up n empty = refl
-length-parents up n (tree a kids more) =
-    ap suc (length-append (parents (Some n) (n + 1) kids) (parents up (n + 1 + size kids) more) ∙ ap₂ (λ i j. i + j) (length-parents (Some n) (n + 1) kids) (length-parents up (n + 1 + size kids) more))
 
 -- ---- lists place by place
 

@@ -1,7 +1,7 @@
 -- A description's network that is put into a store assertion by assertion, and the links of two nodes.
 use Rattle.std.proofs.Common.{◌≡◌, ℕ, ◌+◌, ◌-◌, ◌*◌, ◌<◌, ◌≤◌, ◌^◌, List, [], ◌∷◌, ◌++◌, length, take, drop, Some, slice_get, sym, ◌∙◌, ap, subst, append_assoc, arith, refl}
 use Rattle.std.proofs.lemmas.List.{append-nil, map-append, length-append, take-append-drop, take_all}
-use Rattle.gr_base.proofs.ListLemmas.{Each-at, IsAmong-append_left, IsAmong-slice_get}
+use Rattle.gr_base.proofs.ListLemmas.{Each-at, IsAmong-append_left, IsAmong-slice_get, take-one_more}
 use Rattle.gr_terms.specs.declared.SlotId.{SlotId}
 use Rattle.gr_terms.specs.declared.Term.{Term}
 use Rattle.gr_terms.specs.declared.Term.TheVariants.{Const, Var}
@@ -18,7 +18,6 @@ use Rattle.gr_store.specs.Contents as store
 use Rattle.gr_store.proofs.Growth.{Grows-refl, Grows-trans}
 use Rattle.gr_store.proofs.States.{entry_count-push, entry_count-take}
 use Rattle.gr_feats.specs.Loading.{counted_from}
-use Rattle.gr_feats.proofs.LoadLemmas.{first_items}
 use Rattle.td_desc.specs.Conditions.{IsNumbered, IsTermBelow, Mentions}
 use Rattle.td_desc.specs.declared.Description.{Description}
 use Rattle.td_model.specs.Loads.{HasRoom, IsLoaded, counted_assertion, counted_network, slot_from, with_description}
@@ -184,7 +183,7 @@ module _ (old : Contents) (d : Description) where
 
   module _ (place : ℕ) (a : Assertion) (now : Contents) (at : slice_get d.network place ≡ Some a) (added : IsAdded old d (take place d.network) now) where
     first_more : take (place + 1) d.network ≡ take place d.network ++ a ∷ []
-    first_more = first_items d.network place a at
+    first_more = take-one_more d.network place a at
 
     pub IsAdded-more : (new : Contents) → new ≡ accepting now (counted_assertion old.vars old.slots a) → Grows now new
         → Agrees (network_of (now.accepted ++ counted_assertion old.vars old.slots a ∷ [])) → IsAdded old d (take (place + 1) d.network) new

@@ -4,7 +4,8 @@ use Rattle.std.specs.List.{AllZip}
 use Rattle.std.proofs.Common.{sym, subst}
 use Rattle.gr_base.specs.Lists.{IsWithin}
 use Rattle.gr_base.specs.Forests.{Forest, map_forest, size, IsOneTree}
-use Rattle.gr_base.proofs.ForestLemmas.{AreAlike-weaker, IsOneTree-alike}
+use Rattle.gr_base.proofs.ForestLemmas.{AreAlike-weaker, IsOneTree-alike, one_tree-map}
+use Rattle.gr_base.proofs.Zips.{AllZip-weaker}
 use Rattle.gr_terms.specs.Canonical.{Decorated, Literal, Node}
 use Rattle.gr_terms.specs.LiteralViews.{literals_of}
 use Rattle.gr_terms.specs.Networks.{Term, Assertion, entry, name, variable, HasValue}
@@ -24,8 +25,7 @@ use Rattle.td_model.specs.CanonicalTrees.{HasBags, IsCanonicalTree, StandsForLit
 use Rattle.td_model.specs.Carrying.{Carries}
 use Rattle.td_model.specs.ModelTrees.{IsModelTree}
 use Rattle.td_model.specs.Reading.{AreModelNodes}
-use Rattle.td_model.proofs.LaidNodes.{nodes_laid, one_tree-map}
-use Rattle.td_model.proofs.TreeForms.{zip_weaker}
+use Rattle.td_model.proofs.LaidNodes.{nodes_laid}
 
 -- ---- networks with the same assertions have the same canonical trees
 
@@ -57,7 +57,7 @@ module _ (N M : List (Assertion ℕ ℕ)) (forth : IsWithin N M) (back : IsWithi
   literal_same l k h = record {
     handle = stands_same N M forth back l.handle k.handle h.handle;
     pred = stands_same N M forth back l.pred k.pred h.pred;
-    args = zip_weaker (StandsFor N) (StandsFor M) (stands_same N M forth back) l.args k.args h.args;
+    args = AllZip-weaker (StandsFor N) (StandsFor M) (stands_same N M forth back) l.args k.args h.args;
   }
 
   pub tree_same : (u : Decorated ℕ (Term ℕ)) (t : Tree) → IsCanonicalTree N u t → IsCanonicalTree M u t
@@ -65,7 +65,7 @@ module _ (N M : List (Assertion ℕ ℕ)) (forth : IsWithin N M) (back : IsWithi
     nodes = h.nodes;
     bags = AreAlike-weaker (HasBags N) (HasBags M) bags_same u.nodes h.nodes.forest h.bags;
     interface = bag_same u.interface t.iface h.interface;
-    literals = zip_weaker (StandsForLiteral N) (StandsForLiteral M) literal_same u.literals t.sem h.literals;
+    literals = AllZip-weaker (StandsForLiteral N) (StandsForLiteral M) literal_same u.literals t.sem h.literals;
   }
 
 -- ---- the tree

@@ -2,13 +2,15 @@
 use Rattle.std.specs.Prelude.{◌≡◌, ℕ, zero, suc, ◌+◌, ◌<◌, ◌≤◌, Bool, true, false, List, [], ◌∷◌, ◌++◌, map, length, take, ◌⊎◌, Some, slice_get, option_map, Result, Ok, Err, IfOk, refl}
 use Rattle.std.specs.Bool.{OnTrue, OnFalse}
 use Rattle.std.specs.List.{AllZip}
-use Rattle.std.proofs.Common.{inl, inr, ap, ap₂, sym, ◌∙◌, subst}
+use Rattle.std.proofs.Common.{inl, inr, ap, sym, ◌∙◌, subst}
 use Rattle.std.proofs.lemmas.List.{take_all, map-append, length-append}
 use Rattle.std.proofs.lemmas.Option.{none-some, same_Some, slice_get-map}
 use Rattle.gr_base.specs.Lists.{IsAmong, IsRising}
 use Rattle.gr_base.specs.declared.Memory.{Memory}
-use Rattle.gr_base.specs.Forests.{Forest, empty, tree, labels, map_forest}
-use Rattle.gr_base.proofs.ListLemmas.{IsAmong-one_more, IsWithin-one_more, IsAmong-new_one, IsAmong-map, IsAmong-map_from}
+use Rattle.gr_base.specs.Forests.{Forest, labels, map_forest}
+use Rattle.gr_base.proofs.ListLemmas.{IsAmong-one_more, IsWithin-one_more, IsAmong-new_one, IsAmong-map, IsAmong-map_from, take-one_more}
+use Rattle.gr_base.proofs.ForestLemmas.{labels-map}
+use Rattle.gr_base.proofs.Zips.{AllZip-append}
 use Rattle.gr_terms.specs.Bags.{HasAttribute, IsListed, LacksAttribute, Puts}
 use Rattle.gr_terms.proofs.BagLemmas.{IsAmong-puts, IsAmong-puts_new, IsAmong-puts_old}
 use Rattle.gr_terms.specs.Networks as net
@@ -24,7 +26,6 @@ use Rattle.gr_store.specs.Contents.{IsFirstValue, rank}
 use Rattle.gr_store.proofs.Values.{HasValue-first}
 use Rattle.gr_feats.specs.CanonicalBags.{IsCanonicalBag}
 use Rattle.gr_feats.proofs.CanonicalLemmas.{IsCollected, IsCollected-all, IsCollected-done, IsCollected-missing, least_stands}
-use Rattle.gr_feats.proofs.LoadLemmas.{first_items}
 use Rattle.td_tree.specs.Trees.{BagPairs}
 use Rattle.td_tree.specs.declared.TreeNode.{TreeNode}
 use Rattle.td_forest.specs.Nodes.{IsForestOf}
@@ -40,7 +41,6 @@ use Rattle.td_model.specs.Carrying.{Carries}
 use Rattle.td_model.specs.Reading.{AreModelNodes, CoverAttributes, HasAttributesOf, IsModelNode}
 use Rattle.td_model.proofs.CarryLemmas.{node_at_place}
 use Rattle.td_model.proofs.ModelLemmas.{merged_entry}
-use Rattle.td_model.proofs.SameForms.{AllZip-append}
 
 -- ---- the attributes of a network
 
@@ -96,11 +96,11 @@ attributes_entry list s a x old new added h put there stays listed = record {
 pub first_entry : (network : List Assertion) (place : ℕ) (e : Assertion) (s : SlotId) (a : Sym) (x : Term) (old new : BagPairs) (added : Bool) → slice_get network place ≡ Some e → e ≡ Entry s a x → HasAttributesOf (take place network) old
     → OnTrue added (Puts old new (a, x)) → OnFalse added (HasAttribute old a) → OnFalse added (new ≡ old) → IsListed new → HasAttributesOf (take (place + 1) network) new
 first_entry network place e s a x old new added at is h put there stays listed =
-    subst (λ list. HasAttributesOf list new) (sym (first_items network place e at ∙ ap (λ z. take place network ++ z ∷ []) is)) (attributes_entry (take place network) s a x old new added h put there stays listed)
+    subst (λ list. HasAttributesOf list new) (sym (take-one_more network place e at ∙ ap (λ z. take place network ++ z ∷ []) is)) (attributes_entry (take place network) s a x old new added h put there stays listed)
 
 pub first_other : (network : List Assertion) (place : ℕ) (e : Assertion) (bag : BagPairs) → slice_get network place ≡ Some e → ((s : SlotId) (a : Sym) (x : Term) → e ≡ Entry s a x → ⊥) → HasAttributesOf (take place network) bag
     → HasAttributesOf (take (place + 1) network) bag
-first_other network place e bag at none h = subst (λ list. HasAttributesOf list bag) (sym (first_items network place e at)) (attributes_skip (take place network) e bag h none)
+first_other network place e bag at none h = subst (λ list. HasAttributesOf list bag) (sym (take-one_more network place e at)) (attributes_skip (take place network) e bag h none)
 
 pub no_entry_equate : (e : Assertion) (y z : Term) → e ≡ Equate y z → (s : SlotId) (a : Sym) (x : Term) → e ≡ Entry s a x → ⊥
 no_entry_equate e y z is s a x h = cc
@@ -129,7 +129,7 @@ attributes_ok network bag (Err m) h e = tt
 pub keys_more : (bag : BagPairs) (place : ℕ) (pair : Sym × Term) (old new : List Sym) → slice_get bag place ≡ Some pair → old ≡ map (λ (p : Sym × Term). p.0) (take place bag) → new ≡ old ++ pair.0 ∷ []
     → new ≡ map (λ (p : Sym × Term). p.0) (take (place + 1) bag)
 keys_more bag place pair old new at so_far e =
-    e ∙ ap (λ ks. ks ++ pair.0 ∷ []) so_far ∙ sym (map-append (λ (p : Sym × Term). p.0) (take place bag) (pair ∷ [])) ∙ ap (map (λ (p : Sym × Term). p.0)) (sym (first_items bag place pair at))
+    e ∙ ap (λ ks. ks ++ pair.0 ∷ []) so_far ∙ sym (map-append (λ (p : Sym × Term). p.0) (take place bag) (pair ∷ [])) ∙ ap (map (λ (p : Sym × Term). p.0)) (sym (take-one_more bag place pair at))
 
 -- a store that carries a description's network has no other attributes
 pub covers : (d : code.Description) (F : Forest (List ℕ)) (accepted : List Assertion) (attributes : List Sym) → AreAttributes d.network attributes → Carries accepted (merged_network (description_of d) F)
@@ -173,7 +173,7 @@ bag_all accepted slot attributes bag agrees cover h =
 pub zip_push : {A B C : Type 0} (R : C → B → Type 0) (f : A → C) (xs : List A) (place : ℕ) (x : A) (old new : List B) (y : B) → slice_get xs place ≡ Some x → AllZip R (map f (take place xs)) old → R (f x) y
     → new ≡ old ++ y ∷ [] → AllZip R (map f (take (place + 1) xs)) new
 zip_push R f xs place x old new y at so_far one e =
-    let upto : map f (take (place + 1) xs) ≡ map f (take place xs) ++ f x ∷ [] = ap (map f) (first_items xs place x at) ∙ map-append f (take place xs) (x ∷ []) in
+    let upto : map f (take (place + 1) xs) ≡ map f (take place xs) ++ f x ∷ [] = ap (map f) (take-one_more xs place x at) ∙ map-append f (take place xs) (x ∷ []) in
     subst (λ cs. AllZip R cs new) (sym upto)
     (subst (λ bs. AllZip R (map f (take place xs) ++ f x ∷ []) bs) (sym e) (AllZip-append R (map f (take place xs)) (f x ∷ []) old (y ∷ []) so_far (one, tt)))
 
@@ -184,10 +184,6 @@ zip_all R f xs place ys h z = subst (λ zs. AllZip R (map f zs) ys) (take_all pl
 
 pub head_there : (d : code.Description) (F : Forest (List ℕ)) (place head : ℕ) → IsForestOf (length d.nodes) F → IsHeadAt F place head → head < length d.nodes
 head_there d F place head f h = (f.nodes head).0 (head_in F head (place_head F place head h))
-
-labels-map : {A B : Type 0} (f : A → B) (F : Forest A) → labels (map_forest f F) ≡ map f (labels F)
-labels-map f empty = refl
-labels-map f (tree a kids more) = ap (λ ls. f a ∷ ls) (ap₂ (λ xs ys. xs ++ ys) (labels-map f kids) (labels-map f more) ∙ sym (map-append f (labels kids) (labels more)))
 
 pub slots_there : (d : code.Description) (F : Forest (List ℕ)) (place head : ℕ) (n : DescribedNode) → IsHeadAt F place head → slice_get d.nodes head ≡ Some n
     → slice_get (labels (map_forest (slots_at (description_of d).nodes (description_of d).interface) F)) place ≡ Some (node_of n).slots

@@ -1,29 +1,17 @@
 -- A canonical form goes from a tree over one network to a tree over another one, where the trees answer each other.
-use Rattle.std.specs.Prelude.{◌≡◌, ℕ, List, [], ◌∷◌, ◌++◌, map, refl}
+use Rattle.std.specs.Prelude.{◌≡◌, ℕ, List, [], ◌∷◌, map, refl}
 use Rattle.std.specs.List.{AllZip}
 use Rattle.std.proofs.Common.{inl, inr, ap₂, sym, ◌∙◌, subst}
 use Rattle.gr_base.specs.Lists.{IsAmong, gathered}
-use Rattle.gr_base.specs.Forests.{Forest, empty, tree, labels, AreAlike}
+use Rattle.gr_base.specs.Forests.{labels}
 use Rattle.gr_base.proofs.ForestLemmas.{AreAlike-through}
 use Rattle.gr_base.proofs.ListLemmas.{IsAmong-append, IsAmong-append_left, IsAmong-append_right}
+use Rattle.gr_base.proofs.Zips.{labels-alike}
 use Rattle.gr_terms.specs.Canonical.{Decorated, Label, Literal, Node, Pairs, node_slots, tree_slots, literal_terms, map_literal, IsExact, IsMet, IsCanonicalForm, ListsNode, ListsSlot}
 use Rattle.gr_terms.specs.Networks.{Term, Assertion, AreLinked, back, next}
 use Rattle.td_model.specs.Forms.{HaveSameValues, AreSameNodes, AreSameLiterals, AreSameTrees}
 
 -- ---- lists whose elements answer each other
-
-pub AllZip-append : {A B : Type 0} (R : A → B → Type 0) (xs us : List A) (ys vs : List B) → AllZip R xs ys → AllZip R us vs → AllZip R (xs ++ us) (ys ++ vs)
-AllZip-append R [] us [] vs h k = k
-AllZip-append R [] us (y ∷ ys) vs h k = absurd h
-AllZip-append R (x ∷ xs) us [] vs h k = absurd h
-AllZip-append R (x ∷ xs) us (y ∷ ys) vs h k = (h.0, AllZip-append R xs us ys vs h.1 k)
-
-pub labels_zip : {A B : Type 0} (R : A → B → Type 0) (f : Forest A) (g : Forest B) → AreAlike R f g → AllZip R (labels f) (labels g)
-labels_zip R empty empty h = tt
-labels_zip R empty (tree b others rest) h = absurd h
-labels_zip R (tree a kids more) empty h = absurd h
-labels_zip R (tree a kids more) (tree b others rest) h =
-    (h.0, AllZip-append R (labels kids) (labels more) (labels others) (labels rest) (labels_zip R kids others h.1) (labels_zip R more rest h.2))
 
 -- what is gathered of one list answers something gathered of the other
 pub gathered_answer : {A B C D : Type 0} (R : A → B → Type 0) (Q : C → D → Type 0) (f : A → List C) (g : B → List D)
@@ -65,7 +53,7 @@ module _ {V S W R : Type 0} (text : ℕ → List ℕ) (N : List (Assertion V S))
   slot_answer s i = elim (IsAmong-append (gathered node_slots (labels t.nodes)) (t.interface ∷ []) s i) [
     | inl j ↦
         let r = gathered_answer (AreSameNodes N M there) (HaveSameValues N M there) node_slots node_slots node_answer (labels t.nodes) (labels u.nodes) s
-        (labels_zip (AreSameNodes N M there) t.nodes u.nodes answers.nodes) j in
+        (labels-alike (AreSameNodes N M there) t.nodes u.nodes answers.nodes) j in
         (r.0, IsAmong-append_left (gathered node_slots (labels u.nodes)) (u.interface ∷ []) r.0 r.1, r.2)
     | inr j ↦ elim j [
       | inl e ↦ (

@@ -1,13 +1,14 @@
 -- A tree with the canonical bags of the slots of another one has the same canonical forms.
-use Rattle.std.specs.Prelude.{◌≡◌, ℕ, zero, suc, ◌+◌, List, [], ◌∷◌, ◌++◌, map, length, ◌↔◌, slice_get, Some, refl}
+use Rattle.std.specs.Prelude.{◌≡◌, ℕ, zero, suc, ◌+◌, List, [], ◌∷◌, map, length, ◌↔◌, slice_get, Some, refl}
 use Rattle.std.specs.List.{AllZip}
 use Rattle.std.proofs.Common.{inl, inr, ap, sym, ◌∙◌, subst, arith}
 use Rattle.std.proofs.lemmas.Option.{same_Some}
 use Rattle.gr_base.specs.Lists.{IsAmong, IsRising, Each, gathered}
 use Rattle.gr_base.specs.Forests.{Forest, empty, tree, labels, map_forest, numbered, size, AreAlike}
 use Rattle.gr_base.proofs.ForestLemmas.{length-labels, AreAlike-weaker}
-use Rattle.gr_base.proofs.ListLemmas.{Each-at, Each-append, IsAmong-append, IsAmong-map_from, IsAmong-slice_get, slice_get-append_left}
+use Rattle.gr_base.proofs.ListLemmas.{Each-at, Each-append, IsAmong-append, IsAmong-map_from, IsAmong-slice_get, slice_get-append_left, slice_get-append_right}
 use Rattle.gr_base.proofs.RisingKeys.{IsRising-same}
+use Rattle.gr_base.proofs.Zips.{labels-alike}
 use Rattle.gr_terms.specs.BagViews.{pairs_of}
 use Rattle.gr_terms.specs.Canonical.{Decorated, Label, Literal, Node, Pairs as LabelPairs, node_slots, tree_slots, literal_terms, IsMet, IsCanonicalForm}
 use Rattle.gr_terms.specs.LiteralViews.{literal_of, literals_of}
@@ -28,7 +29,7 @@ use Rattle.td_tree.proofs.TreeNetworkLemmas.{IsPairAt, list_of, pair_value, same
 use Rattle.td_model.specs.CanonicalTrees.{HasBags, StandsForLiteral, IsCanonicalTree}
 use Rattle.td_model.specs.Forms.{HaveSameValues, AreSameNodes, AreSameLiterals, AreSameTrees}
 use Rattle.td_model.proofs.LeastTerms.{least_term, least_stands}
-use Rattle.td_model.proofs.SameForms.{carried_form, gathered_answer, labels_zip, zip_answer}
+use Rattle.td_model.proofs.SameForms.{carried_form, gathered_answer, zip_answer}
 
 -- ---- lists and forests the other way round
 
@@ -50,16 +51,6 @@ zip_flip R Q f one [] [] h = tt
 zip_flip R Q f one [] (y ∷ ys) h = absurd h
 zip_flip R Q f one (x ∷ xs) [] h = absurd h
 zip_flip R Q f one (x ∷ xs) (y ∷ ys) h = (one x y h.0, zip_flip R Q f one xs ys h.1)
-
-pub zip_weaker : {A B : Type 0} (R Q : A → B → Type 0) → ((a : A) (b : B) → R a b → Q a b) → (xs : List A) (ys : List B) → AllZip R xs ys → AllZip Q xs ys
-zip_weaker R Q one [] [] h = tt
-zip_weaker R Q one [] (y ∷ ys) h = absurd h
-zip_weaker R Q one (x ∷ xs) [] h = absurd h
-zip_weaker R Q one (x ∷ xs) (y ∷ ys) h = (one x y h.0, zip_weaker R Q one xs ys h.1)
-
-slice_get-right : {A : Type 0} (xs ys : List A) (i : ℕ) → slice_get (xs ++ ys) (length xs + i) ≡ slice_get ys i
-slice_get-right [] ys i = let e : 0 + i ≡ i = omega arith in ap (slice_get ys) e
-slice_get-right (x ∷ xs) ys i = let e : suc (length xs) + i ≡ suc (length xs + i) = omega arith in ap (slice_get (x ∷ xs ++ ys)) e ∙ slice_get-right xs ys i
 
 -- ---- what stands for a term
 
@@ -160,7 +151,7 @@ module _ (N : List (Assertion ℕ ℕ)) (u : Decorated ℕ (Term ℕ)) (t : Tree
             (λ i lists e. subst (λ m. slice_get (labels d.nodes) m ≡ Some lists) (omega arith) (at (suc i) lists (slice_get-append_left under behind i lists e)))
             h.1,
         forest_has (suc k + size (map_forest lists_of others)) more rest
-            (λ i lists e. subst (λ m. slice_get (labels d.nodes) m ≡ Some lists) (omega arith) (at (suc (length under + i)) lists (slice_get-right under behind i ∙ e)))
+            (λ i lists e. subst (λ m. slice_get (labels d.nodes) m ≡ Some lists) (omega arith) (at (suc (length under + i)) lists (slice_get-append_right under behind i ∙ e)))
             h.2,
       )
 
@@ -183,7 +174,7 @@ module _ (N : List (Assertion ℕ ℕ)) (u : Decorated ℕ (Term ℕ)) (t : Tree
     | inl j ↦
         let flipped = AreAlike-flip NodeHas u.nodes (slotted d).nodes nodes_have in
         let r = gathered_answer (λ p n. NodeHas n p) (λ z r. SlotHas r z) node_slots node_slots node_slot (labels (slotted d).nodes) (labels u.nodes) s
-        (labels_zip (λ p n. NodeHas n p) (slotted d).nodes u.nodes flipped) j in
+        (labels-alike (λ p n. NodeHas n p) (slotted d).nodes u.nodes flipped) j in
         (r.0, r.2)
     | inr j ↦ elim j [ inl e ↦ (u.interface, subst (λ z. SlotHas u.interface z) (sym e) interface_has) | inr k ↦ absurd k ]
   ]

@@ -4,7 +4,7 @@ use Rattle.std.proofs.Common.{inl, inr, subst, sym, ap, ap₂, get_or, ◌∙◌
 use Rattle.std.proofs.lemmas.List.{length-map}
 use Rattle.gr_base.specs.Lists.{IsAmong, NoneTwice, Each, IsListing}
 use Rattle.gr_base.specs.Forests.{Forest, empty}
-use Rattle.gr_base.proofs.ListLemmas.{Each-at, IsAmong-append, IsAmong-append_left, IsAmong-append_right, IsAmong-get_or}
+use Rattle.gr_base.proofs.ListLemmas.{Each-at, IsAmong-append, IsAmong-append_left, IsAmong-append_right, IsAmong-get_or, Each-weaker}
 use Rattle.td_desc.specs.Descriptions.{Description}
 use Rattle.td_forest.specs.declared.Step.{Step}
 use Rattle.td_forest.specs.declared.Made.{Made}
@@ -20,7 +20,7 @@ use Rattle.td_solver.specs.declared.Solved.TheVariants.{All, Cut}
 use Rattle.td_solver.specs.Choices.{Suffices}
 use Rattle.td_solver.specs.Searches.{IsFoundBy}
 use Rattle.td_solver.specs.Turns.{IsSpent, Tried, IsProgress}
-use Rattle.td_solver.proofs.Finding.{found_none, found_skip, found_more, found_cut, found_all, part_all, found_end, each_as}
+use Rattle.td_solver.proofs.Finding.{found_none, found_skip, found_more, found_cut, found_all, part_all, found_end}
 
 -- a named step of the last node can be made
 pub can_make : (m : ℕ) (F : Forest (List ℕ)) (s : Step) → m < 24 → IsForestOf m F → IsNamedStep F s → CanMake F (record { node = m; step = s })
@@ -108,8 +108,8 @@ module _ (d : Description ℕ ℕ) (m : ℕ) (F : Forest (List ℕ)) (f : IsFore
       → IsListing (IsFoundBy (IsForestModel d) without (Tried m F (steps ++ s ∷ [])) more m F) xs
   listing_more steps s more xs l = record {
     once = l.once;
-    only = each_as (IsFoundBy (IsForestModel d) without (λ H. Tried m F steps H ⊎ (H ≡ after_step m s F)) more m F) (IsFoundBy (IsForestModel d) without (Tried m F (steps ++ s ∷ [])) more m F) xs
-        (by_other (λ H. Tried m F steps H ⊎ (H ≡ after_step m s F)) (Tried m F (steps ++ s ∷ [])) more (tried_more m F steps s)) l.only;
+    only = Each-weaker (IsFoundBy (IsForestModel d) without (λ H. Tried m F steps H ⊎ (H ≡ after_step m s F)) more m F) (IsFoundBy (IsForestModel d) without (Tried m F (steps ++ s ∷ [])) more m F)
+        (by_other (λ H. Tried m F steps H ⊎ (H ≡ after_step m s F)) (Tried m F (steps ++ s ∷ [])) more (tried_more m F steps s)) xs l.only;
     all = λ x h. l.all x (by_other (Tried m F (steps ++ s ∷ [])) (λ H. Tried m F steps H ⊎ (H ≡ after_step m s F)) more (tried_one m F steps s) x h);
   }
 

@@ -1,11 +1,11 @@
 -- The steps that the colour of a node leaves to it, as the code finds them.
-use Rattle.std.specs.Prelude.{◌≡◌, ℕ, zero, suc, ◌<◌, List, [], ◌∷◌, map, ◌↔◌, Bool, true, IsTrue, Result, Ok, Err, IfOk, Option, Some, None, length, slice_get, refl}
+use Rattle.std.specs.Prelude.{◌≡◌, ℕ, suc, ◌<◌, List, map, ◌↔◌, Bool, true, IsTrue, Option, Some, None, length, slice_get, refl}
 use Rattle.std.proofs.Common.{subst, sym, ap, ◌∙◌, arith}
 use Rattle.std.specs.Option.{option_map}
 use Rattle.std.proofs.lemmas.Option.{slice_get-map, same_Some}
 use Rattle.gr_base.specs.Lists.{IsAmong}
 use Rattle.gr_base.specs.Forests.{Forest}
-use Rattle.gr_base.proofs.ListLemmas.{Each-at}
+use Rattle.gr_base.proofs.ListLemmas.{Each-at, slice_get-some}
 use Rattle.td_forest.specs.declared.Step.{Step}
 use Rattle.td_forest.specs.Nodes.{IsForestOf}
 use Rattle.td_forest.specs.Names.{IsNamedStep}
@@ -24,10 +24,6 @@ use Rattle.td_solver.specs.Choices.{Suffices}
 use Rattle.td_solver.specs.Tasks.{RedsLast, IsCandidateOf}
 use Rattle.td_solver.proofs.Listed.{enough_as, merges_all, under_all}
 use Rattle.td_solver.proofs.Suiting.{by_candidate, suits_allowed}
-
-pub ok_map : {A E : Type 0} (P Q : A → Type 0) (r : Result A E) → ((a : A) → P a → Q a) → IfOk r P → IfOk r Q
-ok_map P Q (Ok a) f h = f a h
-ok_map P Q (Err e) f h = tt
 
 of_colour : (nodes : List code_node.DescribedNode) (m : ℕ) (n : code_node.DescribedNode) (c : Colour) → slice_get nodes m ≡ Some n → n.colour ≡ c → IsOf (map node_of nodes) c m
 of_colour nodes m n c at e = subst (λ k. IsOf (map node_of nodes) k m) e (colour_of nodes m n at)
@@ -64,14 +60,9 @@ module _ (dd : code.Description) (m : ℕ) (F : Forest (List ℕ)) where
         let is = of_colour dd.nodes m n Red at e in
         enough_as (description_of dd) m F (IsCandidate F Red) (IsCandidateOf dd m F) old new (under_all (description_of dd) F m f Red old new (λ q. cc) p) (λ s h. of_node Red s is h) (λ s h l. h Red is)
 
-has_node : {A : Type 0} (xs : List A) (m : ℕ) → m < length xs → (x : A) × (slice_get xs m ≡ Some x)
-has_node [] m lt = absurd (omega arith)
-has_node (x ∷ xs) zero lt = (x, refl)
-has_node (x ∷ xs) (suc m) lt = has_node xs m (omega arith)
-
 module _ (dd : code.Description) (m : ℕ) (low : m < length dd.nodes) where
   node : (n : code_node.DescribedNode) × (slice_get dd.nodes m ≡ Some n)
-  node = has_node dd.nodes m low
+  node = slice_get-some dd.nodes m low
 
   coloured : IsOf (description_of dd).nodes node.0.colour m
   coloured = colour_of dd.nodes m node.0 node.1

@@ -3,23 +3,14 @@ use Rattle.std.specs.Prelude.{◌≡◌, ℕ, zero, suc, ◌+◌, ◌<◌, ◌�
 use Rattle.std.proofs.Common.{inl, inr, subst, sym, ap, ap₂, ◌∙◌, arith}
 use Rattle.td_solver.specs.Searches.{IsPartListing, Below, IsFound, IsFoundBy}
 use Rattle.gr_base.specs.Lists.{IsAmong, NoneTwice, Each, IsListing}
-use Rattle.gr_base.proofs.ListLemmas.{IsAmong-append, IsAmong-append_left, IsAmong-append_right, IsAmong-map, IsAmong-map_from, Each-at, Each-append}
-
-pub NoneTwice-append : {A : Type 0} (xs ys : List A) → NoneTwice xs → NoneTwice ys → ((x : A) → IsAmong xs x → IsAmong ys x → ⊥) → NoneTwice (xs ++ ys)
-NoneTwice-append [] ys a b apart = b
-NoneTwice-append (x ∷ xs) ys a b apart =
-    ((λ i. elim (IsAmong-append xs ys x i) [ inl j ↦ a.0 j | inr j ↦ apart x (inl refl) j ]), NoneTwice-append xs ys a.1 b (λ y i j. apart y (inr i) j))
-
-pub each_as : {A : Type 0} (P Q : A → Type 0) (xs : List A) → ((x : A) → P x → Q x) → Each P xs → Each Q xs
-each_as P Q [] f e = tt
-each_as P Q (x ∷ xs) f e = (f x e.0, each_as P Q xs f e.1)
+use Rattle.gr_base.proofs.ListLemmas.{IsAmong-append_left, IsAmong-append_right, IsAmong-map, IsAmong-map_from, Each-at, Each-append, Each-weaker, NoneTwice-append}
 
 -- listings of two properties that exclude each other, one behind the other
 pub listing_both : {A : Type 0} (P Q R : A → Type 0) (xs ys : List A) → IsListing P xs → IsListing Q ys → ((x : A) → P x → Q x → ⊥) → ((x : A) → P x → R x) → ((x : A) → Q x → R x)
     → ((x : A) → R x → P x ⊎ Q x) → IsListing R (xs ++ ys)
 listing_both P Q R xs ys a b apart p q r = record {
   once = NoneTwice-append xs ys a.once b.once (λ x i j. apart x (Each-at P xs x a.only i) (Each-at Q ys x b.only j));
-  only = Each-append R xs ys (each_as P R xs p a.only) (each_as Q R ys q b.only);
+  only = Each-append R xs ys (Each-weaker P R p xs a.only) (Each-weaker Q R q ys b.only);
   all = λ x h. elim (r x h) [ inl i ↦ IsAmong-append_left xs ys x (a.all x i) | inr j ↦ IsAmong-append_right xs ys x (b.all x j) ];
 }
 
@@ -28,7 +19,7 @@ pub part_both : {A : Type 0} (P Q R : A → Type 0) (xs ys : List A) → IsListi
     → IsPartListing R (xs ++ ys)
 part_both P Q R xs ys a b apart p q = record {
   once = NoneTwice-append xs ys a.once b.once (λ x i j. apart x (Each-at P xs x a.only i) (Each-at Q ys x b.only j));
-  only = Each-append R xs ys (each_as P R xs p a.only) (each_as Q R ys q b.only);
+  only = Each-append R xs ys (Each-weaker P R p xs a.only) (Each-weaker Q R q ys b.only);
 }
 
 module _ {X : Type 0} (Model : ℕ → X → Type 0) (up : ℕ → X → X) where
@@ -70,7 +61,7 @@ module _ {X : Type 0} (Model : ℕ → X → Type 0) (up : ℕ → X → X) wher
       → IsListing (IsFoundBy Model up (λ H. Q H ⊎ (H ≡ C)) d m F) xs
   found_skip Q d m F C xs bad l = record {
     once = l.once;
-    only = each_as (IsFoundBy Model up Q d m F) (IsFoundBy Model up (λ H. Q H ⊎ (H ≡ C)) d m F) xs (λ x h. record {
+    only = Each-weaker (IsFoundBy Model up Q d m F) (IsFoundBy Model up (λ H. Q H ⊎ (H ≡ C)) d m F) (λ x h. record {
       most = h.most;
       child = h.child;
       rest = h.rest;
@@ -79,7 +70,7 @@ module _ {X : Type 0} (Model : ℕ → X → Type 0) (up : ℕ → X → X) wher
       model = h.model;
       parent = h.parent;
       below = h.below;
-    }) l.only;
+    }) xs l.only;
     all = λ x h. elim h.chosen [
       | inl q ↦ l.all x (record { most = h.most; child = h.child; rest = h.rest; long = h.long; chosen = q; model = h.model; parent = h.parent; below = h.below })
       | inr e ↦ absurd (bad (subst (λ H. Model (suc m) H) e h.model))
@@ -191,12 +182,12 @@ module _ {X : Type 0} (Model : ℕ → X → Type 0) (up : ℕ → X → X) wher
   pub found_all : (Q : X → Type 0) (d m : ℕ) (F : X) (xs : List (ℕ × X)) → ((H : X) → Model (suc m) H → up m H ≡ F → Q H) → IsListing (IsFoundBy Model up Q d m F) xs → IsListing (IsFound Model up d m F) xs
   found_all Q d m F xs every l = record {
     once = l.once;
-    only = each_as (IsFoundBy Model up Q d m F) (IsFound Model up d m F) xs (found_by_is Q d m F) l.only;
+    only = Each-weaker (IsFoundBy Model up Q d m F) (IsFound Model up d m F) (found_by_is Q d m F) xs l.only;
     all = λ x h. l.all x (found_is_by Q d m F every x x.0 refl h.some h.most h.below);
   }
 
   pub part_all : (Q : X → Type 0) (d m : ℕ) (F : X) (xs : List (ℕ × X)) → IsPartListing (IsFoundBy Model up Q d m F) xs → IsPartListing (IsFound Model up d m F) xs
-  part_all Q d m F xs l = record { once = l.once; only = each_as (IsFoundBy Model up Q d m F) (IsFound Model up d m F) xs (found_by_is Q d m F) l.only }
+  part_all Q d m F xs l = record { once = l.once; only = Each-weaker (IsFoundBy Model up Q d m F) (IsFound Model up d m F) (found_by_is Q d m F) xs l.only }
 
   -- nothing stands below a candidate that has all nodes
   pub found_end : (m : ℕ) (F : X) → IsListing (IsFound Model up 0 m F) []

@@ -4,7 +4,7 @@ use Rattle.std.proofs.Common.{inl, inr, subst, sym, ap, ◌∙◌, arith, append
 use Rattle.std.proofs.lemmas.Bool.{cases_eq}
 use Rattle.gr_base.specs.Lists.{IsAmong, IsListing}
 use Rattle.gr_base.specs.Forests.{Forest}
-use Rattle.gr_base.proofs.ListLemmas.{Each-at, Each-append, Each-members, IsAmong-append_left, IsAmong-append_right}
+use Rattle.gr_base.proofs.ListLemmas.{Each-at, Each-append, Each-members, IsAmong-append_left, IsAmong-append_right, Each-weaker, NoneTwice-append}
 use Rattle.td_desc.specs.declared.Colour.{Colour}
 use Rattle.td_desc.specs.declared.Colour.TheVariants.{Black, White, Red}
 use Rattle.td_forest.specs.declared.Step.{Step}
@@ -17,12 +17,12 @@ use Rattle.td_forest.proofs.Naming.{head_in}
 use Rattle.td_colour.specs.Models.{IsForestModel}
 use Rattle.td_solver.specs.Ties.{HasParentBelow}
 use Rattle.td_solver.specs.Candidates.{Suits, IsCandidate, IsPushed, IsEnough, LeadsOn, LeadsNowhere, NoneUnder, AreTold, IsInsertFrom, IsInsertBelow, IsPlainBelow, IsMergeBelow, IsUnderBelow}
-use Rattle.td_solver.proofs.Finding.{NoneTwice-append, listing_both, each_as}
+use Rattle.td_solver.proofs.Finding.{listing_both}
 use Rattle.td_solver.proofs.Narrowing.{takes_none, no_root}
 
 -- a listing of the same under other words
 listing_as : (P Q : Step → Type 0) (xs : List Step) → IsListing P xs → ((s : Step) → P s → Q s) → ((s : Step) → Q s → P s) → IsListing Q xs
-listing_as P Q xs l f g = record { once = l.once; only = each_as P Q xs f l.only; all = λ s q. l.all s (g s q) }
+listing_as P Q xs l f g = record { once = l.once; only = Each-weaker P Q f xs l.only; all = λ s q. l.all s (g s q) }
 
 listing_none : (P : Step → Type 0) → ((s : Step) → P s → ⊥) → IsListing P []
 listing_none P none = record { once = tt; only = tt; all = λ s p. absurd (none s p) }
@@ -103,7 +103,7 @@ module _ (d : Description ℕ ℕ) (m : ℕ) (F : Forest (List ℕ)) where
   enough_none P old none = record { more = []; is = sym (append-nil old); once = tt; only = tt; all = λ s h l. absurd (none s h l) }
 
   pub enough_as : (P Q : Step → Type 0) (old new : List Step) → IsEnough d m F P old new → ((s : Step) → P s → Q s) → ((s : Step) → Q s → LeadsOn d m F s → P s) → IsEnough d m F Q old new
-  enough_as P Q old new p f g = record { more = p.more; is = p.is; once = p.once; only = each_as P Q p.more f p.only; all = λ s q l. p.all s (g s q l) l }
+  enough_as P Q old new p f g = record { more = p.more; is = p.is; once = p.once; only = Each-weaker P Q f p.more p.only; all = λ s q l. p.all s (g s q l) l }
 
   enough_more : (P Q R : Step → Type 0) (old now new : List Step) → IsEnough d m F P old now → IsEnough d m F Q now new → ((s : Step) → P s → Q s → ⊥) → ((s : Step) → P s → R s)
       → ((s : Step) → Q s → R s) → ((s : Step) → R s → P s ⊎ Q s) → IsEnough d m F R old new
@@ -111,7 +111,7 @@ module _ (d : Description ℕ ℕ) (m : ℕ) (F : Forest (List ℕ)) where
     more = p.more ++ q.more;
     is = q.is ∙ ap (λ xs. xs ++ q.more) p.is ∙ append_assoc old p.more q.more;
     once = NoneTwice-append p.more q.more p.once q.once (λ s i j. apart s (Each-at P p.more s p.only i) (Each-at Q q.more s q.only j));
-    only = Each-append R p.more q.more (each_as P R p.more f p.only) (each_as Q R q.more g q.only);
+    only = Each-append R p.more q.more (Each-weaker P R f p.more p.only) (Each-weaker Q R g q.more q.only);
     all = λ s r l. elim (h s r) [
       | inl a ↦ IsAmong-append_left p.more q.more s (p.all s a l)
       | inr b ↦ IsAmong-append_right p.more q.more s (q.all s b l)

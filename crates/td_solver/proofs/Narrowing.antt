@@ -1,9 +1,8 @@
 -- Steps that what is told of parents excludes.
-use Rattle.std.specs.Prelude.{◌≡◌, ℕ, zero, suc, ◌+◌, ◌-◌, ◌<◌, ◌≤◌, List, [], ◌∷◌, ◌++◌, ◌↔◌, Option, Some, None, Bool, true, false, IsTrue, refl}
+use Rattle.std.specs.Prelude.{◌≡◌, ℕ, zero, suc, ◌+◌, ◌-◌, ◌<◌, ◌≤◌, List, [], ◌∷◌, ◌++◌, ◌↔◌, Some, None, Bool, true, false, IsTrue, refl}
 use Rattle.std.specs.Bool.{OnFalse}
 use Rattle.std.proofs.Common.{inl, inr, subst, sym, ap, ◌∙◌, arith}
 use Rattle.std.proofs.lemmas.Bool.{cases_eq, lt-ltb, le-ltb}
-use Rattle.gr_base.specs.Lists.{IsAmong}
 use Rattle.gr_base.specs.Forests.{Forest, empty, tree, IsOver}
 use Rattle.gr_base.proofs.ListLemmas.{Each-at}
 use Rattle.td_desc.specs.declared.Dominance.TheVariants.{Parent}
@@ -20,7 +19,7 @@ use Rattle.td_forest.proofs.Twins.{AllOnce}
 use Rattle.td_forest.proofs.SetLemmas.{eqb-same}
 use Rattle.td_forest.proofs.Named.{has_true, has_false, has_in_true, has_in_false}
 use Rattle.td_forest.proofs.Positions.{in_at, at_in, none_some, at_same, at_over, stands_once, by_position}
-use Rattle.td_forest.proofs.Moving.{merge_moves, insert_moves}
+use Rattle.td_forest.proofs.Moving.{merge_moves, insert_moves, set_is}
 use Rattle.td_forest.proofs.Forming.{forest_is}
 use Rattle.td_forest.proofs.OneStep.{step_below, step_related}
 use Rattle.td_colour.specs.Relations.{Holds}
@@ -72,9 +71,6 @@ root_at (tree [] kids more) i full h = absurd (full.0 refl)
 root_at (tree (z ∷ set) kids more) zero full h = (z, (z ∷ set, refl, inl refl))
 root_at (tree (z ∷ set) kids more) (suc i) full h = root_at more i full.2 (omega arith)
 
-in_set : (set : List ℕ) (u : ℕ) (h : (s : List ℕ) × (◌≡◌ {A = Option (List ℕ)} (Some set) (Some s)) × IsAmong s u) → IsAmong set u
-in_set set u h = let e : Some set ≡ Some h.0 = h.1 in let s : h.0 ≡ set = cc in subst (λ zs. IsAmong zs u) s h.2
-
 down_one : (set : List ℕ) (kids more : Forest (List ℕ)) (y i : ℕ) → Stands kids y (i ∷ []) → Stands (tree set kids more) y (zero ∷ i ∷ [])
 down_one set kids more y i h = h
 
@@ -82,7 +78,7 @@ kid_at : (F : Forest (List ℕ)) (u : ℕ) (base : List ℕ) (i : ℕ) → AllOn
 kid_at empty u base i once full b h = absurd (none_some b.0 b.1)
 kid_at (tree set kids more) u [] i once full b h = absurd (none_some b.0 b.1)
 kid_at (tree set kids more) u (zero ∷ []) i once full b h =
-    let e : kids_of u (tree set kids more) ≡ kids = rw (has_true u set (in_set set u b)) refl in
+    let e : kids_of u (tree set kids more) ≡ kids = rw (has_true u set (set_is set u b)) refl in
     root_at kids i full.1 (subst (λ G. i < width G) e h)
 kid_at (tree set kids more) u (zero ∷ c ∷ base) i once full b h =
     let j : IsIn kids u = at_in kids u (c ∷ base) b in

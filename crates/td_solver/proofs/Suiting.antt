@@ -1,20 +1,19 @@
 -- Which steps the colour of a node leaves to it.
-use Rattle.std.specs.Prelude.{◌≡◌, ℕ, suc, ◌-◌, ◌<◌, List, [], ◌∷◌, ◌++◌, map, if◌then◌else◌, Option, Some, None, refl}
-use Rattle.std.proofs.Common.{inl, inr, subst, sym, ap, ap₂, ◌∙◌, arith}
+use Rattle.std.specs.Prelude.{◌≡◌, ℕ, suc, ◌-◌, ◌<◌, List, [], ◌∷◌, map, if◌then◌else◌, Option, refl}
+use Rattle.std.proofs.Common.{inl, inr, subst, sym, ◌∙◌, arith}
 use Rattle.std.proofs.lemmas.Bool.{cases_eq}
 use Rattle.gr_base.specs.Lists.{IsAmong, IsRising}
-use Rattle.gr_base.specs.Forests.{Forest, empty, tree, labels, map_forest}
-use Rattle.gr_base.proofs.ListLemmas.{IsAmong-append_left, IsAmong-append_right, IsAmong-map, Each-at}
-use Rattle.gr_base.proofs.ForestLemmas.{labels-beside}
+use Rattle.gr_base.specs.Forests.{Forest, labels}
+use Rattle.gr_base.proofs.ListLemmas.{IsAmong-map, Each-at}
+use Rattle.gr_base.proofs.ForestLemmas.{labels-map}
 use Rattle.td_forest.specs.declared.Step.{Step}
 use Rattle.td_forest.specs.declared.Step.TheVariants.{Merge, Insert}
 use Rattle.td_forest.specs.Nodes.{IsIn, IsNodeSet}
-use Rattle.td_forest.specs.Steps.{put, has, first_trees, trees_behind, merged, inserted, change_under, after_step, IsStep}
+use Rattle.td_forest.specs.Steps.{put, has, merged, after_step, IsStep}
 use Rattle.td_forest.specs.Names.{IsHead, IsNamedStep}
 use Rattle.td_forest.specs.Without.{without}
-use Rattle.td_forest.proofs.Twins.{AllOnce}
 use Rattle.td_forest.proofs.SetLemmas.{in-put, put-new, put-in}
-use Rattle.td_forest.proofs.Named.{has_true, has_false}
+use Rattle.td_forest.proofs.Named.{has_true}
 use Rattle.td_forest.proofs.Naming.{head_in}
 use Rattle.td_forest.proofs.Heading.{head_set, set_head}
 use Rattle.td_forest.proofs.Forming.{forest_is}
@@ -27,16 +26,9 @@ use Rattle.td_colour.specs.Colours.{IsOf, IsLawful, IsAllowed, BlacksFirst}
 use Rattle.td_colour.specs.Models.{IsForestModel}
 use Rattle.td_colour.proofs.Colouring.{one_colour, one_black, red_alone}
 use Rattle.td_colour.proofs.Modelling.{model_allowed}
+use Rattle.td_colour.proofs.Linking.{single_label}
 use Rattle.td_solver.specs.Candidates.{Suits, IsCandidate}
 use Rattle.td_solver.specs.Tasks.{RedsLast}
-
-map-both : {A B : Type 0} (g : A → B) (xs ys : List A) → map g (xs ++ ys) ≡ map g xs ++ map g ys
-map-both g [] ys = refl
-map-both g (x ∷ xs) ys = ap (λ zs. g x ∷ zs) (map-both g xs ys)
-
-labels-map : {A B : Type 0} (g : A → B) (F : Forest A) → labels (map_forest g F) ≡ map g (labels F)
-labels-map g empty = refl
-labels-map g (tree a kids more) = ap (λ zs. g a ∷ zs) (ap₂ (λ xs ys. xs ++ ys) (labels-map g kids) (labels-map g more) ∙ sym (map-both g (labels kids) (labels more)))
 
 -- a merge puts the new node into the set
 merged_set : (m at : ℕ) (F : Forest (List ℕ)) (set : List ℕ) → IsAmong (labels F) set → IsAmong set at → IsAmong (labels (merged m at F)) (put m set)
@@ -44,27 +36,6 @@ merged_set m at F set l i =
     let g : List ℕ → List ℕ = λ zs. if has at zs then put m zs else zs in
     let e : (if has at set then put m set else set) ≡ put m set = rw (has_true at set i) refl in
     subst (λ zs. IsAmong zs (put m set)) (sym (labels-map g F)) (subst (λ z. IsAmong (map g (labels F)) z) e (IsAmong-map g (labels F) set l))
-
--- an insertion makes a tree node of the new node alone
-single_inserted : (x from to : ℕ) (F : Forest (List ℕ)) → IsAmong (labels (inserted x from to F)) (x ∷ [])
-single_inserted x from to F =
-    subst (λ zs. IsAmong zs (x ∷ [])) (sym (labels-beside (first_trees from F) (tree (x ∷ []) (first_trees (to - from) (trees_behind from F)) (trees_behind to F))))
-    (IsAmong-append_right (labels (first_trees from F)) (labels (tree (x ∷ []) (first_trees (to - from) (trees_behind from F)) (trees_behind to F))) (x ∷ []) (inl refl))
-
-single_under : (x u from to : ℕ) (F : Forest (List ℕ)) → AllOnce F → IsIn F u → IsAmong (labels (change_under u (inserted x from to) F)) (x ∷ [])
-single_under x u from to empty once i = absurd i
-single_under x u from to (tree set kids more) once (inl i) =
-    rw (has_true u set i) (inr (IsAmong-append_left (labels (inserted x from to kids)) (labels more) (x ∷ []) (single_inserted x from to kids)))
-single_under x u from to (tree set kids more) once (inr (inl i)) =
-    rw (has_false u set (λ j. once.1 u j i))
-    (inr (IsAmong-append_left (labels (change_under u (inserted x from to) kids)) (labels (change_under u (inserted x from to) more)) (x ∷ []) (single_under x u from to kids once.4 i)))
-single_under x u from to (tree set kids more) once (inr (inr i)) =
-    rw (has_false u set (λ j. once.2 u j i))
-    (inr (IsAmong-append_right (labels (change_under u (inserted x from to) kids)) (labels (change_under u (inserted x from to) more)) (x ∷ []) (single_under x u from to more once.5 i)))
-
-single_label : (x : ℕ) (under : Option ℕ) (from to : ℕ) (F : Forest (List ℕ)) → AllOnce F → IsStep F (Insert under from to) → IsAmong (labels (after_step x (Insert under from to) F)) (x ∷ [])
-single_label x None from to F once step = single_inserted x from to F
-single_label x (Some u) from to F once step = single_under x u from to F once step.0
 
 module _ (d : Description ℕ ℕ) (first : BlacksFirst d.nodes) (last : RedsLast d.nodes) (m : ℕ) (F : Forest (List ℕ)) (model : IsForestModel d m F) where
   differ : (x : ℕ) (a b : Colour) → IsOf d.nodes a x → IsOf d.nodes b x → (a ≡ b → ⊥) → ⊥

@@ -1,5 +1,5 @@
 -- One step of the search: what it keeps in the store, and when a forest model comes of it.
-use Rattle.std.specs.Prelude.{◌≡◌, ℕ, suc, ◌+◌, ◌*◌, ◌-◌, ◌<◌, ◌≤◌, List, [], ◌∷◌, ◌++◌, ◌↔◌, Option, Some, length, map, slice_get, refl}
+use Rattle.std.specs.Prelude.{◌≡◌, ℕ, suc, ◌+◌, ◌*◌, ◌-◌, ◌<◌, ◌≤◌, List, ◌++◌, ◌↔◌, Option, Some, length, map, slice_get, refl}
 use Rattle.std.proofs.Common.{inl, inr, subst, sym, ap, ◌∙◌, arith, zero-add}
 use Rattle.std.specs.Option.{option_map}
 use Rattle.std.proofs.lemmas.Option.{slice_get-map}
@@ -8,9 +8,10 @@ use Rattle.gr_base.specs.Forests.{Forest}
 use Rattle.gr_base.proofs.ListLemmas.{IsAmong-append, IsAmong-append_left, IsAmong-append_right, IsAmong-slice_get, Each-at}
 use Rattle.gr_terms.specs.Networks.{Agrees, link}
 use Rattle.gr_terms.specs.Networks as net
-use Rattle.gr_terms.specs.Views.{network_of, assertion_of}
+use Rattle.gr_terms.specs.Views.{network_of}
 use Rattle.gr_terms.specs.declared.Assertion.{Assertion}
 use Rattle.gr_terms.proofs.NetworkLemmas.{Agrees-part}
+use Rattle.gr_terms.proofs.ViewLemmas.{network_of-append}
 use Rattle.gr_store.specs.Contents.{Contents}
 use Rattle.td_desc.specs.declared.DescribedNode as code_node
 use Rattle.td_desc.specs.declared.Description as code
@@ -31,15 +32,8 @@ use Rattle.td_colour.proofs.Linking.{links_kept, insert_links, merge_adds, merge
 use Rattle.td_colour.proofs.Modelling.{step_decides}
 use Rattle.td_model.specs.Carrying.{Carries}
 use Rattle.td_model.specs.Loads.{AreSlotsMade, slot_links, with_links}
+use Rattle.td_model.proofs.CarryLemmas.{carries_agrees}
 use Rattle.td_solver.specs.Turns.{Keeps}
-
--- what is carried agrees where the network does
-pub carries_agrees : (accepted : List Assertion) (N : List (net.Assertion ℕ ℕ)) → Carries accepted N → Agrees (network_of accepted) ↔ Agrees N
-carries_agrees accepted N c = (Agrees-part N (network_of accepted) c.all, Agrees-part (network_of accepted) N c.only)
-
-network_both : (xs ys : List Assertion) → network_of (xs ++ ys) ≡ network_of xs ++ network_of ys
-network_both [] ys = refl
-network_both (x ∷ xs) ys = ap (λ zs. assertion_of x ∷ zs) (network_both xs ys)
 
 links_are : (a b : code_node.DescribedNode) → network_of (slot_links 0 a b) ≡ node_links (Some (node_of a)) (Some (node_of b))
 links_are a b = rw (zero-add a.own.0, zero-add b.own.0, zero-add a.top.0, zero-add b.top.0, zero-add a.bot.0, zero-add b.bot.0) refl
@@ -74,12 +68,12 @@ module _ (dd : code.Description) (m : ℕ) (F : Forest (List ℕ)) (f : IsForest
 
     pub merge_carries : (accepted : List Assertion) → Carries accepted (merged_network d F) → Carries (accepted ++ slot_links 0 a b) (merged_network d (after_step m (Merge at) F))
     merge_carries accepted c = record {
-      all = λ x i. subst (λ zs. IsAmong zs x) (sym (network_both accepted (slot_links 0 a b)))
+      all = λ x i. subst (λ zs. IsAmong zs x) (sym (network_of-append accepted (slot_links 0 a b)))
           (elim (IsAmong-append (merged_network d F) (node_links (slice_get d.nodes at) (slice_get d.nodes m)) x (merge_links d m F f at head x i)) [
             | inl j ↦ IsAmong-append_left (network_of accepted) (network_of (slot_links 0 a b)) x (c.all x j)
             | inr j ↦ IsAmong-append_right (network_of accepted) (network_of (slot_links 0 a b)) x (subst (λ zs. IsAmong zs x) links_so j)
           ]);
-      only = λ x i. elim (IsAmong-append (network_of accepted) (network_of (slot_links 0 a b)) x (subst (λ zs. IsAmong zs x) (network_both accepted (slot_links 0 a b)) i)) [
+      only = λ x i. elim (IsAmong-append (network_of accepted) (network_of (slot_links 0 a b)) x (subst (λ zs. IsAmong zs x) (network_of-append accepted (slot_links 0 a b)) i)) [
         | inl j ↦ links_kept d m F f (Merge at) (head_in F at head) x (c.only x j)
         | inr j ↦ merge_adds d m F f at head x (subst (λ zs. IsAmong zs x) (sym links_so) j)
       ];

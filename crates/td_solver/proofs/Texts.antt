@@ -1,11 +1,10 @@
 -- The texts of the minimal models, each the only one of its model.
 use Rattle.std.specs.Prelude.{◌≡◌, ℕ, ◌<◌, List, [], ◌∷◌, Option, Some, None, length, map, slice_get, ◌↔◌}
-use Rattle.std.proofs.Common.{inl, inr, subst, sym, ap, ◌∙◌, arith}
+use Rattle.std.proofs.Common.{inl, inr, subst, sym, ◌∙◌, arith}
 use Rattle.std.proofs.lemmas.List.{length-map}
-use Rattle.std.proofs.lemmas.Option.{slice_get-get_or}
 use Rattle.gr_base.specs.Lists.{IsAmong, NoneTwice, gathered}
 use Rattle.gr_base.specs.Forests.{Forest, empty, labels}
-use Rattle.gr_base.proofs.ListLemmas.{IsAmong-append, IsAmong-map, IsAmong-map_from, Each-at, one_place}
+use Rattle.gr_base.proofs.ListLemmas.{IsAmong-append, IsAmong-map, IsAmong-map_from, Each-at}
 use Rattle.gr_terms.specs.Networks as net
 use Rattle.gr_terms.specs.Networks.{entry, link, HasValue}
 use Rattle.gr_terms.specs.Views.{assertion_of}
@@ -15,6 +14,7 @@ use Rattle.td_canon.specs.CanonicalTexts.{text_in, TellsAttributesApart}
 use Rattle.td_canon.specs.TreeSets as sets
 use Rattle.td_canon.proofs.TellingLemmas.{one_network_text}
 use Rattle.td_canon.specs.TreeSets.{texts_of}
+use Rattle.td_canon.proofs.OrderLemmas.{texts_apart}
 use Rattle.td_desc.specs.declared.Description as code
 use Rattle.td_desc.specs.Descriptions.{Description, DescribedNode, node_of, description_of}
 use Rattle.td_forest.specs.Without.{without}
@@ -89,10 +89,6 @@ attribute_named count s a x (Link t u) named e = absurd (differ e)
     differ : entry s a x ≡ assertion_of (Link t u) → ⊥
     differ f = cc
 
-text_apart : (texts : List (List ℕ)) (p q : ℕ) → NoneTwice texts → p < length texts → q < length texts → text_in texts p ≡ text_in texts q → p ≡ q
-text_apart texts p q once a b e =
-    one_place texts p q (text_in texts p) once (slice_get-get_or texts p [] a) (slice_get-get_or texts q [] b ∙ ap (λ (x : List ℕ). Some x) (sym e))
-
 module _ (dd : code.Description) (texts : List (List ℕ)) (once : NoneTwice texts) (named : IsNamedDescription (length texts) dd) where
   abbrev d : Description ℕ ℕ
   d = description_of dd
@@ -103,7 +99,7 @@ module _ (dd : code.Description) (texts : List (List ℕ)) (once : NoneTwice tex
       attribute_named (length texts) h.0 a x r.0 (Each-at (IsNamedAssertion (length texts)) dd.network r.0 named.network r.1) r.2
 
   tells_apart : (F : Forest (List ℕ)) → TellsAttributesApart (text_in texts) (merged_network d F) (model_tree d F)
-  tells_apart F p q s r x y i j hp hq e = text_apart texts p q once (attribute_below F s p x hp) (attribute_below F r q y hq) e
+  tells_apart F p q s r x y i j hp hq e = texts_apart texts p q once (attribute_below F s p x hp) (attribute_below F r q y hq) e
 
   -- all texts of all minimal models were gained
   pub gains_all : (old new : List sets.Entry) → GainsSome texts d old new → ((F : Forest (List ℕ)) → IsMinimalModel d F → HasTextOf (text_in texts) d F new) → GainsAll texts d old new

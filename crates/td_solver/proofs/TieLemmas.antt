@@ -1,7 +1,7 @@
 -- The relations that are tested when a node is added.
-use Rattle.std.specs.Prelude.{◌≡◌, ℕ, zero, suc, ◌+◌, ◌<◌, ◌≤◌, List, [], ◌∷◌, ◌++◌, ◌⊎◌, Bool, true, false, ◌==◌, ◌&&◌, nat_lt, Some, length, filter, max, take, slice_get, refl}
+use Rattle.std.specs.Prelude.{◌≡◌, ℕ, zero, suc, ◌+◌, ◌<◌, ◌≤◌, List, [], ◌∷◌, ◌++◌, Bool, true, false, ◌==◌, nat_lt, Some, length, filter, max, take, slice_get, refl}
 use Rattle.std.proofs.Common.{inl, inr, subst, sym, ap, ◌∙◌, arith, rules, get_or}
-use Rattle.std.proofs.lemmas.Bool.{cases_eq}
+use Rattle.std.proofs.lemmas.Bool.{cases_eq, and_from, and_parts, cases_Bool}
 use Rattle.std.proofs.lemmas.Grind.{take_at_read}
 use Rattle.gr_base.specs.Lists.{IsAmong, Each}
 use Rattle.gr_base.specs.Forests.{Forest}
@@ -14,14 +14,10 @@ use Rattle.td_colour.specs.Models.{AllHold}
 use Rattle.td_solver.specs.Ties.{is_of, is_tight, is_tight_before, kept_for, IsBelow, HoldsOf, no_relation}
 use Rattle.td_solver.proofs.Deciding.{kept}
 
-bool_cases : (b : Bool) → (b ≡ true) ⊎ (b ≡ false)
-bool_cases true = inl refl
-bool_cases false = inr refl
-
 -- what is left of a list by a test
 filter_in : (p : Related → Bool) (rs : List Related) (r : Related) → IsAmong (filter p rs) r → IsAmong rs r × (p r ≡ true)
 filter_in p [] r i = absurd i
-filter_in p (s ∷ rs) r i = elim (bool_cases (p s)) [
+filter_in p (s ∷ rs) r i = elim (cases_Bool (p s)) [
   | inl t ↦ elim (subst (λ xs. IsAmong xs r) (kept_one t) i) [
     | inl e ↦ (inl e, ap p e ∙ t)
     | inr j ↦ let h = filter_in p rs r j in (inr h.0, h.1)
@@ -38,16 +34,16 @@ filter_in p (s ∷ rs) r i = elim (bool_cases (p s)) [
 in_filter : (p : Related → Bool) (rs : List Related) (r : Related) → IsAmong rs r → p r ≡ true → IsAmong (filter p rs) r
 in_filter p [] r i t = absurd i
 in_filter p (s ∷ rs) r (inl e) t = let q : p s ≡ true = ap p (sym e) ∙ t in rw q (inl e)
-in_filter p (s ∷ rs) r (inr i) t = elim (bool_cases (p s)) [ inl q ↦ rw q (inr (in_filter p rs r i t)) | inr q ↦ rw q (in_filter p rs r i t) ]
+in_filter p (s ∷ rs) r (inr i) t = elim (cases_Bool (p s)) [ inl q ↦ rw q (inr (in_filter p rs r i t)) | inr q ↦ rw q (in_filter p rs r i t) ]
 
 -- one relation more
 filter_end : (p : Related → Bool) (xs : List Related) (x : Related) → p x ≡ true → filter p (xs ++ x ∷ []) ≡ filter p xs ++ x ∷ []
 filter_end p [] x t = rw t refl
-filter_end p (y ∷ xs) x t = elim (bool_cases (p y)) [ inl q ↦ rw q (ap (λ zs. y ∷ zs) (filter_end p xs x t)) | inr q ↦ rw q (filter_end p xs x t) ]
+filter_end p (y ∷ xs) x t = elim (cases_Bool (p y)) [ inl q ↦ rw q (ap (λ zs. y ∷ zs) (filter_end p xs x t)) | inr q ↦ rw q (filter_end p xs x t) ]
 
 filter_not : (p : Related → Bool) (xs : List Related) (x : Related) → p x ≡ false → filter p (xs ++ x ∷ []) ≡ filter p xs
 filter_not p [] x f = rw f refl
-filter_not p (y ∷ xs) x f = elim (bool_cases (p y)) [ inl q ↦ rw q (ap (λ zs. y ∷ zs) (filter_not p xs x f)) | inr q ↦ rw q (filter_not p xs x f) ]
+filter_not p (y ∷ xs) x f = elim (cases_Bool (p y)) [ inl q ↦ rw q (ap (λ zs. y ∷ zs) (filter_not p xs x f)) | inr q ↦ rw q (filter_not p xs x f) ]
 
 pub filter_more : (p : Related → Bool) (rs kept : List Related) (i : ℕ) → i < length rs → kept ≡ filter p (take i rs) → p (get_or rs i no_relation) ≡ true → kept ++ get_or rs i no_relation ∷ [] ≡ filter p (take (i + 1) rs)
 filter_more p rs kept i lt e t =
@@ -104,24 +100,14 @@ of_is m r e = elim (cases_eq (max r.from r.to) m) [
 is_of_it : (m : ℕ) (r : Related) → max r.from r.to ≡ m → is_of m r ≡ true
 is_of_it m r e = subst (λ k. (k == m) ≡ true) (sym e) (eqb-same m)
 
-both_true : (a b : Bool) → (a && b) ≡ true → (a ≡ true) × (b ≡ true)
-both_true true true e = (refl, refl)
-both_true true false e = let bad : ◌≡◌ {A = Bool} false true = e in cc
-both_true false b e = let bad : ◌≡◌ {A = Bool} false true = e in cc
-
-true_both : (a b : Bool) → a ≡ true → b ≡ true → (a && b) ≡ true
-true_both true true e f = refl
-true_both true false e f = let bad : ◌≡◌ {A = Bool} false true = f in cc
-true_both false b e f = let bad : ◌≡◌ {A = Bool} false true = e in cc
-
 tight_is : (m : ℕ) (r : Related) → is_tight_before m r ≡ true → (is_tight r ≡ true) × IsBelow m r
 tight_is m r e =
-    let h = both_true (is_tight r) (nat_lt (max r.from r.to) m) e in
+    let h = and_parts (is_tight r) (nat_lt (max r.from r.to) m) e in
     let l : max r.from r.to < m = search rules in
     (h.0, (omega arith, omega arith))
 
 is_tight_it : (m : ℕ) (r : Related) → is_tight r ≡ true → max r.from r.to < m → is_tight_before m r ≡ true
-is_tight_it m r t l = true_both (is_tight r) (nat_lt (max r.from r.to) m) t (search rules)
+is_tight_it m r t l = and_from (is_tight r) (nat_lt (max r.from r.to) m) t (search rules)
 
 of_in : (m : ℕ) (rs : List Related) (r : Related) → IsAmong (filter (is_of m) rs) r → IsAmong rs r × IsBelow (suc m) r
 of_in m rs r i = let h = filter_in (is_of m) rs r i in let e : max r.from r.to ≡ m = of_is m r h.1 in (h.0, (omega arith, omega arith))
@@ -158,7 +144,7 @@ module _ (rs : List Related) (m : ℕ) where
           | inr ne ↦
               let from : r.from < m = omega arith in
               let to : r.to < m = omega arith in
-              elim (bool_cases (is_tight r)) [
+              elim (cases_Bool (is_tight r)) [
                 | inl t ↦ Each-at (HoldsOf G) (filter (is_tight_before m) rs) r old (in_filter (is_tight_before m) rs r i (is_tight_it m r t (omega arith)))
                 | inr f ↦ kept m G (subst (λ k. IsForestOf k G) later g) r.from r.to from to r.how f (held r i (from, to))
               ]

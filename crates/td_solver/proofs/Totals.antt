@@ -2,9 +2,10 @@
 use Rattle.std.specs.Prelude.{◌≡◌, ℕ, zero, suc, ◌+◌, ◌<◌, ◌≤◌, List, [], ◌∷◌, ◌++◌, ◌⊎◌, length, map, refl}
 use Rattle.std.proofs.Common.{inl, inr, subst, sym, ap, ◌∙◌, arith, length-append}
 use Rattle.std.proofs.lemmas.List.{length-map}
-use Rattle.gr_base.specs.Lists.{IsAmong, IsWithin, NoneTwice, Each, IsListing, gathered}
+use Rattle.gr_base.specs.Lists.{IsAmong, NoneTwice, Each, IsListing, gathered}
 use Rattle.gr_base.specs.Forests.{Forest, empty, labels}
 use Rattle.gr_base.proofs.ListLemmas.{Each-at, IsAmong-map, IsAmong-map_from, IsAmong-append_left}
+use Rattle.gr_base.proofs.Counting.{length-within}
 use Rattle.gr_terms.specs.Networks.{Agrees}
 use Rattle.gr_terms.proofs.NetworkLemmas.{Agrees-part}
 use Rattle.td_desc.specs.Descriptions.{Description}
@@ -38,19 +39,9 @@ taken [] x i = absurd i
 taken (z ∷ ys) x (inl e) = record { rest = ys; long = refl; others = λ y i. elim i [ inl q ↦ inl (q ∙ sym e) | inr j ↦ inr j ] }
 taken (z ∷ ys) x (inr i) = taken_later z x ys (taken ys x i)
 
--- a list without repetition within another is not longer
-length_within : {A : Type 0} (xs ys : List A) → NoneTwice xs → IsWithin xs ys → length xs ≤ length ys
-length_within [] ys once inside = omega arith
-length_within {A} (x ∷ xs) ys once inside =
-    let t = taken ys x (inside x (inl refl)) in
-    let l : length ys ≡ suc (length t.rest) = t.long in
-    let fewer : IsWithin xs t.rest = λ y i. elim (t.others y (inside y (inr i))) [ inl e ↦ absurd (once.0 (subst (λ z. IsAmong xs z) e i)) | inr j ↦ j ] in
-    let h : length xs ≤ length t.rest = length_within xs t.rest once.1 fewer in
-    omega arith
-
 -- a part listing is not longer than a listing, and two listings are of one length
 part_shorter : {A : Type 0} (P : A → Type 0) (xs ys : List A) → IsPartListing P xs → IsListing P ys → length xs ≤ length ys
-part_shorter P xs ys p l = length_within xs ys p.once (λ x i. l.all x (Each-at P xs x p.only i))
+part_shorter P xs ys p l = length-within xs ys p.once (λ x i. l.all x (Each-at P xs x p.only i))
 
 listings_long : {A : Type 0} (P : A → Type 0) (xs ys : List A) → IsListing P xs → IsListing P ys → length xs ≡ length ys
 listings_long P xs ys a b =

@@ -100,14 +100,14 @@ BeginsUnder parent [] = ⊥
 BeginsUnder parent (x ∷ xs) = x.parent ≡ parent
 
 -- a parent stands before number n
-abbrev IsBelow : ℕ → Option ℕ → Type 0
+abbrev pub IsBelow : ℕ → Option ℕ → Type 0
 IsBelow n parent = (p : ℕ) → parent ≡ Some p → p < n
 
-begins_above : (n k : ℕ) (parent : Option ℕ) (more : Forest (Node BagPairs)) (rest : List TreeNode) → IsBelow n parent → BeginsAbove n rest → BeginsAbove n (preorder k parent more ++ rest)
+pub begins_above : (n k : ℕ) (parent : Option ℕ) (more : Forest (Node BagPairs)) (rest : List TreeNode) → IsBelow n parent → BeginsAbove n rest → BeginsAbove n (preorder k parent more ++ rest)
 begins_above n k parent empty rest below above = above
 begins_above n k parent (tree b kids more) rest below above = below
 
-above_later : (n k : ℕ) (rest : List TreeNode) → n ≤ k → BeginsAbove n rest → BeginsAbove k rest
+pub above_later : (n k : ℕ) (rest : List TreeNode) → n ≤ k → BeginsAbove n rest → BeginsAbove k rest
 above_later n k [] le above = tt
 above_later n k (x ∷ rest) le above = λ p e. let h : p < n = above p e in omega arith
 

@@ -32,7 +32,7 @@ count_from-IsAmong n k [] x i = absurd i
 count_from-IsAmong {A} n k (y ∷ ys) x (inl e) = let same_number : k ≡ n = ap (λ (p : ℕ × A). p.0) e in (zero, omega arith, ap (λ (p : ℕ × A). Some p.1) (sym e))
 count_from-IsAmong n k (y ∷ ys) x (inr i) = let r = count_from-IsAmong (suc n) k ys x i in let h : k ≡ suc n + r.0 = r.1 in (suc r.0, omega arith, r.2)
 
-IsAmong-count_from : {A : Type 0} (n i : ℕ) (xs : List A) (x : A) → slice_get xs i ≡ Some x → IsAmong (count_from n xs) (n + i, x)
+pub IsAmong-count_from : {A : Type 0} (n i : ℕ) (xs : List A) (x : A) → slice_get xs i ≡ Some x → IsAmong (count_from n xs) (n + i, x)
 IsAmong-count_from n i [] x at = absurd (none-some x at)
 IsAmong-count_from n zero (y ∷ ys) x at = inl (let e : n + zero ≡ n = omega arith in let f : x ≡ y = sym (same_Some y x at) in λ j. (e j, f j))
 IsAmong-count_from n (suc i) (y ∷ ys) x at = let e : n + suc i ≡ suc n + i = omega arith in inr (subst (λ m. IsAmong (count_from (suc n) ys) (m, x)) (sym e) (IsAmong-count_from (suc n) i ys x at))

@@ -21,9 +21,6 @@ Each-take_more P xs i x at each here =
     let more : suc i ≡ i + 1 = omega arith in
     subst (λ k. Each P (take k xs)) more (subst (Each P) (sym (take-one_more xs i x at)) (Each-append P (take i xs) (x ∷ []) each (here, tt)))
 
-pub Each-whole : {A : Type 0} (P : A → Type 0) (xs : List A) (i : ℕ) → length xs ≤ i → Each P (take i xs) → Each P xs
-Each-whole P xs i le each = subst (Each P) (take_all i xs le) each
-
 pub Each-slice_get : {A : Type 0} (P : A → Type 0) (xs : List A) (i : ℕ) (x : A) → Each P xs → slice_get xs i ≡ Some x → P x
 Each-slice_get P [] i x each at = absurd (none-some x at)
 Each-slice_get P (y ∷ ys) zero x each at = subst P (same_Some y x at) each.0

@@ -3,6 +3,7 @@ use Rattle.std.specs.Prelude.{◌≡◌, ◌≢◌, ℕ, ◌<◌, ◌≤◌, Lis
 use Rattle.std.proofs.Common.{inl, inr, ap, sym, ◌∙◌, arith}
 use Rattle.std.proofs.lemmas.Bool.Decides.{eqb_tells, leb_tells}
 use Rattle.std.proofs.lemmas.Option.{none-some, same_Some}
+use Rattle.std.proofs.lemmas.Bool.{true_from_ne_false, false_from_ne_true}
 use Rattle.gr_base.specs.Lists.{IsAmong}
 use Rattle.gr_base.specs.Forests.{Forest, empty, tree, labels, leaf_labels, inner_labels}
 use Rattle.gr_base.proofs.ListLemmas.{IsAmong-append, IsAmong-append_left, IsAmong-append_right}
@@ -33,14 +34,6 @@ single_of (k ∷ j ∷ rest) h = absurd (h (λ e. omega arith))
 
 pub few_of : (n : ℕ) → (1 < n → ⊥) → n ≤ 1
 few_of n h = elim (leb_tells n 1) [ inl e ↦ e.1 | inr e ↦ absurd (h (omega (arith, e.1))) ]
-
-true_of : (b : Bool) → (b ≡ false → ⊥) → b ≡ true
-true_of true h = refl
-true_of false h = absurd (h refl)
-
-false_of : (b : Bool) → (b ≡ true → ⊥) → b ≡ false
-false_of true h = absurd (h refl)
-false_of false h = refl
 
 apart : (b : Bool) → b ≡ true → b ≡ false → ⊥
 apart b t f = let h : true ≡ false = sym t ∙ f in cc
@@ -99,8 +92,8 @@ good_shape f well = record {
   feet = λ n i m. one_name_of (root_name f) (category_name n) (λ h. well flaw.FootCategory (n, i, m, h));
   one_anchor = single_of (marked ANCHOR (labels f)) (well flaw.AnchorCount);
   few_feet = few_of (length (marked FOOT (labels f))) (well flaw.FootCount);
-  inner = λ n i. false_of (has_leaf_mark n) (λ m. well flaw.MarkOnInner (n, i, m));
-  leaves = λ n i. true_of (has_leaf_mark n) (λ m. well flaw.NoWord (n, i, inl m));
+  inner = λ n i. false_from_ne_true (has_leaf_mark n) (λ m. well flaw.MarkOnInner (n, i, m));
+  leaves = λ n i. true_from_ne_false (has_leaf_mark n) (λ m. well flaw.NoWord (n, i, inl m));
   words = word_of f well;
 }
 

@@ -1,5 +1,5 @@
 -- One pass over nodes in preorder tells the forest: its nodes, its leaves and its inner nodes.
-use Rattle.std.specs.Prelude.{◌≡◌, ℕ, zero, suc, ◌+◌, ◌<◌, ◌≤◌, List, [], ◌∷◌, ◌++◌, length, take, drop, slice_get, Option, Some, None, Bool, true, false, refl}
+use Rattle.std.specs.Prelude.{◌≡◌, ℕ, zero, suc, ◌+◌, ◌<◌, List, [], ◌∷◌, ◌++◌, length, take, drop, slice_get, Option, Some, None, Bool, true, false, refl}
 use Rattle.std.proofs.Common.{inl, inr, ap, ap₂, sym, ◌∙◌, arith, append_assoc, eq-eqb}
 use Rattle.std.proofs.lemmas.List.{append-nil, map-append}
 use Rattle.std.proofs.lemmas.Option.{none-some, same_Some}
@@ -12,6 +12,7 @@ use Rattle.td_tree.specs.Trees.{BagPairs, AreTreeNodes, BeginsAbove, is_parent, 
 use Rattle.td_tree.specs.TreeViews.{Pairs, lists_of}
 use Rattle.td_tree.specs.declared.TreeNode.{TreeNode}
 pub use Rattle.td_tree.proofs.FlatTreeLemmas.{labels-nodes}
+use Rattle.td_tree.proofs.PreorderLemmas.{IsBelow, begins_above, above_later}
 use Rattle.tg_grammar.specs.Marks.{first_name, lists_at}
 use Rattle.tg_grammar.specs.Shapes.{root_name}
 use Rattle.tg_grammar.specs.Surveys.{Sight, begins_under, lists_seen, sights}
@@ -24,18 +25,6 @@ has_kids (tree b kids more) = true
 abbrev pub seen_of : Forest (Node BagPairs) → List Sight
 seen_of empty = []
 seen_of (tree b kids more) = (has_kids kids, lists_of b) ∷ seen_of kids ++ seen_of more
-
--- a parent stands before number n
-abbrev IsBelow : ℕ → Option ℕ → Type 0
-IsBelow n parent = (p : ℕ) → parent ≡ Some p → p < n
-
-begins_above : (n k : ℕ) (parent : Option ℕ) (more : Forest (Node BagPairs)) (rest : List TreeNode) → IsBelow n parent → BeginsAbove n rest → BeginsAbove n (preorder k parent more ++ rest)
-begins_above n k parent empty rest below above = above
-begins_above n k parent (tree b kids more) rest below above = below
-
-above_later : (n k : ℕ) (rest : List TreeNode) → n ≤ k → BeginsAbove n rest → BeginsAbove k rest
-above_later n k [] le above = tt
-above_later n k (x ∷ rest) le above = λ p e. let h : p < n = above p e in omega arith
 
 -- what stands above a node doesn't stand under it
 not_parent : (n : ℕ) (o : Option ℕ) → IsBelow n o → is_parent o n ≡ false

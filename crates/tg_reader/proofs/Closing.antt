@@ -5,7 +5,7 @@ use Rattle.std.proofs.lemmas.Option.{same_Some}
 use Rattle.gr_base.specs.Lists.{Each, InByteOrder, IsAmong, NoneTwice}
 use Rattle.gr_base.specs.Forests.{Forest, empty, tree, AreAlike, IsOneTree, labels, map_forest, numbered as with_numbers, size}
 use Rattle.gr_base.proofs.ForestLemmas.{IsOneTree-alike, length-labels}
-use Rattle.gr_base.proofs.ListLemmas.{Each-append, Each-left, Each-members, Each-right, IsAmong-map, IsAmong-map_from, slice_get-append_left}
+use Rattle.gr_base.proofs.ListLemmas.{Each-append, Each-left, Each-members, Each-right, IsAmong-map, IsAmong-map_from, slice_get-append_left, slice_get-append_right}
 use Rattle.gr_symbols.specs.Numbers.{Names}
 use Rattle.gr_terms.specs.BagViews.{pairs_of}
 use Rattle.gr_terms.specs.Canonical as canonical
@@ -212,10 +212,6 @@ module _ (text : ℕ → List ℕ) (texts : List (List ℕ)) (once : NoneTwice t
         here : (part : Part) (a : ℕ) (x : Term ℕ) → IsPairAt (decorated_of g t) (at_node n part) (a, x) → IsAmong (list_of part (lists_of b)) (a, x)
         here part a x (others, at', i) = subst (λ z. IsAmong (list_of part z) (a, x)) (same_Some others (lists_of b) (sym at' ∙ at)) i
 
-    slice_get-right : {A : Type 0} (xs ys : List A) (i : ℕ) → slice_get (xs ++ ys) (length xs + i) ≡ slice_get ys i
-    slice_get-right [] ys i = let e : 0 + i ≡ i = omega arith in ap (slice_get ys) e
-    slice_get-right (x ∷ xs) ys i = let e : suc (length xs) + i ≡ suc (length xs + i) = omega arith in ap (slice_get (x ∷ xs ++ ys)) e ∙ slice_get-right xs ys i
-
     lists_forest : (k : ℕ) (f : Forest (Node Pairs)) (h : Forest (Node BagPairs)) → ((i : ℕ) (lists : Node (List (ℕ × Term ℕ))) → slice_get (labels (map_forest lists_of h)) i ≡ Some lists → slice_get (labels (decorated_of g t).nodes) (k + i) ≡ Some lists) →
         Each (IsOrderedNode text) (labels f) → AreAlike HoldsNode f h →
         AreAlike (ListsNode (text_in texts) (tree_network (decorated_of g t)) lab) (map_forest (λ p. slots_at p.0) (with_numbers k (map_forest lists_of h))) (map_forest (moved_node text texts once) f)
@@ -229,7 +225,7 @@ module _ (text : ℕ → List ℕ) (texts : List (List ℕ)) (once : NoneTwice t
               (λ i lists e. subst (λ m. slice_get (labels (decorated_of g t).nodes) m ≡ Some lists) (omega arith) (at (suc i) lists (slice_get-append_left (labels (map_forest lists_of others)) (labels (map_forest lists_of rest)) i lists e)))
               (Each-left (IsOrderedNode text) (labels kids) (labels more) in_order.1) alike.1,
           lists_forest (suc k + size (map_forest lists_of others)) more rest
-              (λ i lists e. subst (λ m. slice_get (labels (decorated_of g t).nodes) m ≡ Some lists) (omega arith) (at (suc (length (labels (map_forest lists_of others)) + i)) lists (slice_get-right (labels (map_forest lists_of others)) (labels (map_forest lists_of rest)) i ∙ e)))
+              (λ i lists e. subst (λ m. slice_get (labels (decorated_of g t).nodes) m ≡ Some lists) (omega arith) (at (suc (length (labels (map_forest lists_of others)) + i)) lists (slice_get-append_right (labels (map_forest lists_of others)) (labels (map_forest lists_of rest)) i ∙ e)))
               (Each-right (IsOrderedNode text) (labels kids) (labels more) in_order.1) alike.2,
         )
 

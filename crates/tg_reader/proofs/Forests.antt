@@ -6,6 +6,7 @@ use Rattle.gr_base.specs.Lists.{Each, gathered}
 use Rattle.gr_base.specs.Forests.{Forest, empty, tree, beside, labels, size}
 use Rattle.gr_base.proofs.ForestLemmas.{AreAlike-beside, beside-empty, beside_assoc, labels-beside, size-alike, size-beside}
 use Rattle.gr_base.proofs.ListLemmas.{Each-left, Each-right, same_tail}
+use Rattle.gr_base.proofs.Gathering.{gathered-append}
 use Rattle.gr_symbols.specs.Numbers.{Grows, with_texts}
 use Rattle.gr_symbols.proofs.NumberLemmas.{Grows-trans}
 use Rattle.gr_terms.specs.Canonical.{Node, Pairs}
@@ -13,7 +14,7 @@ use Rattle.td_canon.specs.TreeText.{enclosed, node_text, tree_texts}
 use Rattle.td_tree.specs.Trees.{BagPairs, node_of, preorder}
 use Rattle.td_tree.specs.declared.TreeNode.{TreeNode}
 use Rattle.td_tree.proofs.PreorderLemmas.{length-preorder}
-use Rattle.tg_reader.proofs.Rows.{gathered-append, table_then}
+use Rattle.tg_reader.proofs.Rows.{table_then}
 use Rattle.tg_reader.specs.Naming.{forest_names, node_names}
 use Rattle.tg_reader.specs.Reading.{AppendsForest, CanReadBehind, CanReadNode, CanReadNodes, CanReadOne, CanReadRow, Differs, IsNodeEnd, IsTreeEnd, Lays, LaysOne, StandsForNode, Gets}
 use Rattle.td_canon.specs.Writing.{slots_of}

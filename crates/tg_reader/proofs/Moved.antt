@@ -8,6 +8,7 @@ use Rattle.std.proofs.lemmas.List.{map-append}
 use Rattle.gr_base.specs.Lists.{Each, NoneTwice, IsAmong, gathered}
 use Rattle.gr_base.specs.Forests.{Forest, empty, tree, labels, map_forest}
 use Rattle.gr_base.proofs.ListLemmas.{Each-left, Each-right}
+use Rattle.gr_base.proofs.ForestLemmas.{labels-map}
 use Rattle.gr_symbols.specs.Numbers.{Names}
 use Rattle.gr_symbols.proofs.NumberLemmas.{IsAmong-Names, named_or_absent, one_number}
 use Rattle.gr_terms.specs.Canonical.{Decorated, IsNumberedFrom, Label, Literal, Node, Pairs, category, literal_terms, map_literal, named, node_values, numbered, properties, values, walked}
@@ -15,10 +16,6 @@ use Rattle.gr_terms.specs.Constants.{CAT}
 use Rattle.td_canon.specs.CanonicalTexts.{text_in}
 use Rattle.td_canon.specs.TreeText.{category_text, decorated_text, enclosed, label_text, literal_text, node_text, pair_texts, spelled, tree_texts}
 use Rattle.td_canon.proofs.ValueLemmas.{text_in-names}
-
-pub labels-map : {A B : Type 0} (f : A → B) (g : Forest A) → labels (map_forest f g) ≡ map f (labels g)
-labels-map f empty = refl
-labels-map f (tree a kids more) = ap (λ ls. f a ∷ ls) (ap₂ (λ xs ys. xs ++ ys) (labels-map f kids) (labels-map f more) ∙ sym (map-append f (labels kids) (labels more)))
 
 -- the text has a number, by one table
 module _ (text : ℕ → List ℕ) (texts : List (List ℕ)) (once : NoneTwice texts) where

@@ -6,9 +6,9 @@ use Rattle.std.proofs.lemmas.Bool.Decides.{nat_tests}
 use Rattle.std.proofs.lemmas.List.{get_or_past}
 use Rattle.gr_base.specs.Lists.{Each, InByteOrder, IsAmong, NoneTwice, gathered}
 use Rattle.gr_base.specs.Forests.{IsOneTree, labels}
-use Rattle.gr_base.proofs.ListLemmas.{IsAmong-append_left, IsAmong-append_right}
-use Rattle.gr_symbols.specs.Numbers.{Grows, Names, first_texts, with_text, with_texts}
-use Rattle.gr_symbols.proofs.NumberLemmas.{Grows-trans, IsAmong-Names, Names-IsAmong, Names-within, with_text-by, with_texts-grows, with_texts-once}
+use Rattle.gr_base.proofs.ForestLemmas.{labels-map, one_tree-map}
+use Rattle.gr_symbols.specs.Numbers.{Grows, Names, first_texts, with_texts}
+use Rattle.gr_symbols.proofs.NumberLemmas.{Grows-trans, IsAmong-Names, Names-IsAmong, Names-within, with_texts-grows, with_texts-once, IsAmong-grows, with_texts-has}
 use Rattle.gr_terms.specs.Canonical.{Decorated, Label, Literal, Node, Pairs, category, literal_terms, map_literal, named, numbered, properties}
 use Rattle.gr_terms.specs.Constants.{CAT}
 use Rattle.gr_text.specs.Limits.{IsShort}
@@ -24,24 +24,12 @@ use Rattle.tg_reader.specs.Reading.{CanRead, CanReadLiteral, CanReadNode, CanRea
 use Rattle.tg_reader.specs.Writable.{IsTreeText}
 use Rattle.tg_reader.specs.declared.reader.Run.TheVariants.{Word}
 use Rattle.tg_reader.proofs.Closing.{IsOrderedForm, IsOrderedNode}
-use Rattle.tg_reader.proofs.Moved.{Found, FoundForm, FoundLabel, FoundLiteral, FoundNode, FoundPair, attributes_moved, category_moved, form_moved, labels-map, moved, moved_form, moved_is, moved_label, moved_node, moved_pairs, moved_text, properties_moved}
-use Rattle.tg_reader.proofs.Readable.{IsWell, StandsWell, one-map, readable}
+use Rattle.tg_reader.proofs.Moved.{Found, FoundForm, FoundLabel, FoundLiteral, FoundNode, FoundPair, attributes_moved, category_moved, form_moved, moved, moved_form, moved_is, moved_label, moved_node, moved_pairs, moved_text, properties_moved}
+use Rattle.tg_reader.proofs.Readable.{IsWell, StandsWell, readable}
 use Rattle.tg_reader.proofs.Runs.{word_run}
 use Rattle.tg_reader.proofs.Tables.{first_is, first_names, only_number}
 
 -- ---- a table with more texts
-
-there_still : (old new : List (List ℕ)) (t : List ℕ) → Grows old new → IsAmong old t → IsAmong new t
-there_still old new t grows i = subst (λ z. IsAmong z t) (sym grows.1) (IsAmong-append_left old grows.0 t i)
-
-with_text-has : (texts : List (List ℕ)) (t : List ℕ) → IsAmong (with_text texts t) t
-with_text-has texts t = with_text-by (λ new. IsAmong new t) texts t (λ i. i) (λ absent. IsAmong-append_right texts (t ∷ []) t (inl refl))
-
-with_texts-has : (texts ts : List (List ℕ)) (t : List ℕ) → IsAmong ts t → IsAmong (with_texts texts ts) t
-with_texts-has texts [] t i = absurd i
-with_texts-has texts (u ∷ ts) t (inl e) =
-    there_still (with_text texts u) (with_texts (with_text texts u) ts) t (with_texts-grows (with_text texts u) ts) (subst (λ z. IsAmong (with_text texts u) z) (sym e) (with_text-has texts u))
-with_texts-has texts (u ∷ ts) t (inr i) = with_texts-has (with_text texts u) ts t i
 
 -- ---- bytes
 
@@ -203,7 +191,7 @@ has_form texts once first x is short there =
     λ a e. only_number is.texts is.table.once is.table.first CAT a (codes "cat") (first_names is.texts is.table.once is.table.first CAT (codes "cat") refl) (λ h. absurd cc) (e ∙ cat_is) in
     record {
       form = moved_form text texts once c;
-      one = one-map (moved_node text texts once) c.nodes r.can.one;
+      one = one_tree-map (moved_node text texts once) c.nodes r.can.one;
       text_is = r.text_is ∙ sym (form_moved text texts once cat only c (found_form text texts once found c));
       spells = spell_form text texts once found c r.can r.ordered r.well;
       names_are = names_same text texts once found cat only c;
@@ -222,7 +210,7 @@ one_naming x is other short =
     let once : NoneTwice texts = with_texts-once is.texts other.texts is.table.once in
     let grows : Grows is.texts texts = with_texts-grows is.texts other.texts in
     let first : Grows first_texts texts = Grows-trans first_texts is.texts texts is.table.first grows in
-    let a = has_form texts once first x is short (λ t i. there_still is.texts texts t grows i) in
+    let a = has_form texts once first x is short (λ t i. IsAmong-grows is.texts texts t grows i) in
     let b = has_form texts once first x other short (λ t i. with_texts-has is.texts other.texts t i) in
     let same : a.form ≡ b.form = forms_apart (text_in texts) (λ n. n < length texts) (λ m n h k e. texts_apart texts m n once h k e) a.form b.form a.one b.one a.spells b.spells (sym a.text_is ∙ b.text_is) in
     sym a.names_are ∙ ap (form_names (text_in texts)) same ∙ b.names_are

@@ -3,8 +3,9 @@ use Rattle.std.specs.Prelude.{◌≡◌, ◌≢◌, ℕ, suc, ◌+◌, ◌<◌, 
 use Rattle.std.proofs.Common.{inl, inr, ap, sym, ◌∙◌, subst, arith}
 use Rattle.std.proofs.lemmas.List.{length-map}
 use Rattle.gr_base.specs.Lists.{Each, IsAmong}
-use Rattle.gr_base.specs.Forests.{Forest, empty, tree, AreAlike, IsOneTree, labels, map_forest, size}
+use Rattle.gr_base.specs.Forests.{Forest, empty, tree, AreAlike, labels, map_forest, size}
 use Rattle.gr_base.proofs.ListLemmas.{Each-append, Each-at, Each-left, Each-members, Each-right, IsAmong-map_from}
+use Rattle.gr_base.proofs.ForestLemmas.{size-map, one_tree-map}
 use Rattle.gr_terms.specs.BagViews.{pairs_of}
 use Rattle.gr_terms.specs.Canonical.{Decorated, Label, ListsNode, Node, Pairs, category, map_literal, named, numbered, properties, walked}
 use Rattle.gr_terms.specs.Constants.{ANCHOR, CAT, COANCHOR, FOOT, LEX, MARK, NADJ, SUBST}
@@ -82,15 +83,6 @@ place_within v met = by (is_met v met) refl
     by : (b : Bool) → is_met v met ≡ b → place v met ≤ length met
     by true e = let h : place v met < length met = (stands_in v met [] e).within in omega arith
     by false e = let h : place v met ≡ length met = place-absent v met e in omega arith
-
-pub size-map : {A B : Type 0} (f : A → B) (g : Forest A) → size (map_forest f g) ≡ size g
-size-map f empty = refl
-size-map f (tree a kids more) = omega (arith, size-map f kids, size-map f more)
-
-pub one-map : {A B : Type 0} (f : A → B) (g : Forest A) → IsOneTree g → IsOneTree (map_forest f g)
-one-map f empty one = absurd one
-one-map f (tree a kids empty) one = tt
-one-map f (tree a kids (tree b under more)) one = absurd one
 
 module _ (old : List (List ℕ)) (table : IsTable old) (met : List ℕ) (few : suc (length met) < 10 ^ 9) where
   can_term : (v : Value) → IsWritableTerm old v → CanRead (text_in old) (label_in met (term_of v))
@@ -205,7 +197,7 @@ readable old table t x has writable short =
     subst (λ c. Readable old x c) (sym same) (record {
       text_is = text_is;
       can = record {
-        one = one-map (form_node text (label_in met)) (map_forest lists_of f) (one-map lists_of f has.nodes.one);
+        one = one_tree-map (form_node text (label_in met)) (map_forest lists_of f) (one_tree-map lists_of f has.nodes.one);
         few = omega (arith, has.nodes.few, sizes, size-map (form_node text (label_in met)) (map_forest lists_of f), size-map lists_of f);
         nodes = can_of old table met few _ good;
         interface = can_bag old table met few t.iface writable.iface;

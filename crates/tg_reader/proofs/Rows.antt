@@ -4,6 +4,7 @@ use Rattle.std.specs.List.{join_with_byte}
 use Rattle.std.proofs.Common.{ap, sym, ◌∙◌, subst, append_assoc, append-nil}
 use Rattle.gr_base.specs.Lists.{Each, gathered}
 use Rattle.gr_base.proofs.ListLemmas.{Each-right, same_tail}
+use Rattle.gr_base.proofs.Gathering.{gathered-append}
 use Rattle.gr_symbols.specs.Numbers.{Grows, with_texts}
 use Rattle.gr_symbols.proofs.NumberLemmas.{with_texts-append}
 use Rattle.tg_reader.specs.Reading.{Differs, EachOfSome, Ends, Gets, InTurn, is_of}
@@ -13,11 +14,6 @@ use Rattle.tg_reader.proofs.Steps.{later}
 pub InTurn-more : {V S : Type 0} (R : V → S → S → Type 0) (vs : List V) (v : V) (old now new : S) → InTurn R vs old now → R v now new → InTurn R (vs ++ v ∷ []) old new
 InTurn-more R [] v old now new turn step = (new, subst (λ s. R v s new) turn step, refl)
 InTurn-more R (w ∷ vs) v old now new turn step = (turn.0, turn.1, InTurn-more R vs v turn.0 now new turn.2 step)
-
--- the names of things one after another are those of the first ones and then those of the others
-pub gathered-append : {A B : Type 0} (f : A → List B) (xs ys : List A) → gathered f (xs ++ ys) ≡ gathered f xs ++ gathered f ys
-gathered-append f [] ys = refl
-gathered-append f (x ∷ xs) ys = ap (λ zs. f x ++ zs) (gathered-append f xs ys) ∙ sym (append_assoc (f x) (gathered f xs) (gathered f ys))
 
 -- a table that got names twice
 pub table_then : (old mid new ns ms : List (List ℕ)) → mid ≡ with_texts old ns → new ≡ with_texts mid ms → new ≡ with_texts old (ns ++ ms)

@@ -5,10 +5,10 @@ use Rattle.std.specs.List.{join_with_byte}
 use Rattle.std.proofs.Common.{inl, inr, ap, sym, subst, arith, length-append}
 use Rattle.gr_base.specs.Lists.{Each, gathered}
 use Rattle.gr_base.specs.Forests.{Forest, empty, tree, labels}
+use Rattle.gr_base.proofs.Gathering.{gathered-append}
 use Rattle.gr_text.specs.Words.{is_word, quoted}
 use Rattle.gr_terms.specs.Canonical.{Decorated, Label, Literal, Node, Pairs, category, literal_terms, named, node_values, numbered, properties, values, walked}
 use Rattle.td_canon.specs.TreeText.{category_text, decorated_text, enclosed, label_text, literal_text, node_text, pair_texts, tree_texts}
-use Rattle.tg_reader.proofs.Rows.{gathered-append}
 use Rattle.tg_reader.proofs.Held.{category_short}
 use Rattle.tg_reader.proofs.Runs.{word_some}
 

@@ -2,6 +2,7 @@
 use Rattle.std.proofs.Common.{◌≡◌, ℕ, zero, suc, List, [], ◌∷◌, ◌++◌, Bool, true, false, refl, sym, inl, inr, subst, ap}
 use Rattle.std.specs.Prelude.{◌==◌, ◌||◌, ◌&&◌, not, codes}
 use Rattle.std.proofs.lemmas.Bool.{true≢false, eqb-true, eq-eqb}
+use Rattle.gr_base.proofs.Booleans.{or_false_is}
 use Rattle.gr_grammar.specs.Grammars.{Grammar, Info, Matches, a_token, no_token, both, the_left, the_right, by_part, IsSystem, is_clear, nullable, first, goes, is_of}
 use Rattle.gr_grammar.proofs.Fronts.{not_true, or_cases, or_left, or_right, and_left, and_right}
 use Rattle.tg_syntax.specs.declared.class.Class.{Class}
@@ -276,21 +277,17 @@ some n = pick_each HasSome word_rest string_rest node others (λ m. ([], none_wo
 abbrev IsBegun : Grammar Class → Info Class → Type 0
 IsBegun g i = (t : ℕ) → is_of system i.first t ≡ true → (ts : List ℕ) × Matches system g (t ∷ ts) []
 
-no_or : (b : Bool) → (b || false) ≡ true → b ≡ true
-no_or true h = refl
-no_or false h = h
-
 begun_word : (n : ℕ) → IsBegun (word_rest n) (word_info n)
 begun_word zero = λ t i. absurd (true≢false (sym i))
-begun_word (suc zero) = λ t i. ([], the_left (both (a_token (no_or _ i)) (by_part {n = word_part 0} no_token)))
+begun_word (suc zero) = λ t i. ([], the_left (both (a_token (or_false_is _ i)) (by_part {n = word_part 0} no_token)))
 begun_word (suc (suc n)) = λ t i. elim (or_cases (test WordByte t) _ i) [
   | inl x ↦ ([], the_left (both (a_token x) (by_part {n = word_part (suc n)} (none (word_part (suc n)) (ap (λ i. i.null) (info_word (suc n))) []))))
-  | inr y ↦ (97 ∷ [], the_right (the_left (both (a_token (no_or _ y)) (both (a_token refl) (by_part {n = word_part n} (none (word_part n) (ap (λ i. i.null) (info_word n)) []))))))
+  | inr y ↦ (97 ∷ [], the_right (the_left (both (a_token (or_false_is _ y)) (both (a_token refl) (by_part {n = word_part n} (none (word_part n) (ap (λ i. i.null) (info_word n)) []))))))
 ]
 
 begun_string : (n : ℕ) → IsBegun (string_rest n) (string_info n)
 begun_string zero = λ t i. absurd (true≢false (sym i))
-begun_string (suc n) = λ t i. ([], the_left (both (a_token (no_or _ i)) (by_part {n = string_part n} (none (string_part n) (ap (λ i. i.null) (info_string n)) []))))
+begun_string (suc n) = λ t i. ([], the_left (both (a_token (or_false_is _ i)) (by_part {n = string_part n} (none (string_part n) (ap (λ i. i.null) (info_string n)) []))))
 
 begun_node : (n : ℕ) → IsBegun (node n) (node_info n)
 begun_node n = λ t i. elim (or_cases (test (Byte 45) t) _ i) [
@@ -299,7 +296,7 @@ begun_node n = λ t i. elim (or_cases (test (Byte 45) t) _ i) [
     | inl x ↦ ([], a_node n (t ∷ []) (the_right (a_term t [] x)))
     | inr z ↦ elim (or_cases (test (Byte 34) t) _ z) [
       | inl x ↦ (34 ∷ [], a_node n (t ∷ 34 ∷ []) (the_right (the_right (the_left (both (a_token x) (both (by_part {n = string_part 255} (none (string_part 255) refl (34 ∷ []))) (a_token refl)))))))
-      | inr w ↦ (48 ∷ [], a_node n (t ∷ 48 ∷ []) (the_right (the_right (the_right (both (a_token (no_or _ w)) (a_zero []))))))
+      | inr w ↦ (48 ∷ [], a_node n (t ∷ 48 ∷ []) (the_right (the_right (the_right (both (a_token (or_false_is _ w)) (a_zero []))))))
     ]
   ]
 ]
@@ -307,9 +304,9 @@ begun_node n = λ t i. elim (or_cases (test (Byte 45) t) _ i) [
 begun_other : (n : ℕ) → IsBegun (others n) (other_info n)
 begun_other zero = λ t i. elim (or_cases (test (Byte 116) t) _ i) [
   | inl x ↦ (codes "rees 0" ++ 10 ∷ [], the_left (both (both (a_token x) (keyword_text (codes "ree") (codes "s 0" ++ 10 ∷ []))) (the_right (both (keyword_text (codes "s ") (48 ∷ 10 ∷ [])) (both (a_zero (10 ∷ [])) (a_token refl))))))
-  | inr y ↦ (codes "ut 0" ++ 10 ∷ [], the_right (both (both (a_token (no_or _ y)) (keyword_text (codes "ut ") (48 ∷ 10 ∷ []))) (both (a_zero (10 ∷ [])) (a_token refl))))
+  | inr y ↦ (codes "ut 0" ++ 10 ∷ [], the_right (both (both (a_token (or_false_is _ y)) (keyword_text (codes "ut ") (48 ∷ 10 ∷ []))) (both (a_zero (10 ∷ [])) (a_token refl))))
 ]
-begun_other (suc zero) = λ t i. (61 ∷ 97 ∷ [], both (a_word t (61 ∷ 97 ∷ []) (no_or _ i)) (both (a_token refl) (a_term 97 [] refl)))
+begun_other (suc zero) = λ t i. (61 ∷ 97 ∷ [], both (a_word t (61 ∷ 97 ∷ []) (or_false_is _ i)) (both (a_token refl) (a_term 97 [] refl)))
 begun_other (suc (suc n)) = λ t i. absurd (true≢false (sym i))
 
 pub is_system : IsSystem system

@@ -1,9 +1,10 @@
 -- A word that may be a keyword, behind which something else may follow.
-use Rattle.std.proofs.Common.{◌≡◌, ℕ, zero, suc, ◌+◌, ◌≤◌, List, [], ◌∷◌, ◌++◌, length, Bool, true, false, refl, ap, sym, ◌∙◌, ◌⊎◌, inl, inr, subst, arith, length-append}
+use Rattle.std.proofs.Common.{◌≡◌, ℕ, zero, suc, ◌+◌, ◌≤◌, List, [], ◌∷◌, ◌++◌, length, true, false, refl, ap, sym, ◌∙◌, ◌⊎◌, inl, inr, subst, arith, length-append}
 use Rattle.std.specs.Prelude.{◌==◌, ◌&&◌, ◌||◌, not, codes}
-use Rattle.std.proofs.lemmas.Bool.{true≢false, eqb-true, eq-eqb}
+use Rattle.std.proofs.lemmas.Bool.{true≢false, eqb-true, eq-eqb, cases_Bool}
 use Rattle.gr_base.specs.Lists.{Each}
 use Rattle.gr_base.proofs.ListLemmas.{same_head, same_tail}
+use Rattle.gr_base.proofs.Booleans.{or_false_is}
 use Rattle.gr_text.specs.Words.{is_word_byte}
 use Rattle.gr_grammar.specs.Grammars.{Grammar, alt, part, Runs, End, took, failed, take_token, bad_token, bad_end, take_nothing, run_both, run_first, run_left, run_right, run_part, tree_of, is_next}
 use Rattle.gr_grammar.proofs.Fronts.{no_longer}
@@ -19,25 +20,17 @@ use Rattle.tg_syntax.proofs.FileSystem.{parts_word}
 pub out_word : (n : ℕ) {ts : List ℕ} {e : End ℕ} → Runs system (part (word_part n)) ts e → Runs system (word_rest n) ts e
 out_word n {ts} {e} (run_part a) = subst (λ g. Runs system g ts e) (parts_word n) a
 
-or_no : (b : Bool) → (b || false) ≡ false → b ≡ false
-or_no true h = h
-or_no false h = refl
-
-decide : (b : Bool) → (b ≡ true) ⊎ (b ≡ false)
-decide true = inl refl
-decide false = inr refl
-
 -- what begins no word begins with no byte of a word
 no_byte : (t b : ℕ) → test WordByte b ≡ true → is_word_byte t ≡ false → (t == b) ≡ false
-no_byte t b w n = elim (decide (t == b)) [ inl e ↦ absurd (true≢false (sym w ∙ (ap is_word_byte (sym (eqb-true t b e)) ∙ n))) | inr e ↦ e ]
+no_byte t b w n = elim (cases_Bool (t == b)) [ inl e ↦ absurd (true≢false (sym w ∙ (ap is_word_byte (sym (eqb-true t b e)) ∙ n))) | inr e ↦ e ]
 
 pub not_this : (b : ℕ) → test WordByte b ≡ true → (ts : List ℕ) → is_next system (WordByte ∷ []) ts ≡ false → is_next system (Byte b ∷ []) ts ≡ false
 not_this b w [] h = refl
-not_this b w (t ∷ ts) h = ap (λ v. v || false) (no_byte t b w (or_no (is_word_byte t) h))
+not_this b w (t ∷ ts) h = ap (λ v. v || false) (no_byte t b w (or_false_is (is_word_byte t) h))
 
 pub not_other : (b : ℕ) (ts : List ℕ) → is_next system (WordByte ∷ []) ts ≡ false → is_next system (WordByteBut b ∷ []) ts ≡ false
 not_other b [] h = refl
-not_other b (t ∷ ts) h = ap (λ v. (v && not (t == b)) || false) (or_no (is_word_byte t) h)
+not_other b (t ∷ ts) h = ap (λ v. (v && not (t == b)) || false) (or_false_is (is_word_byte t) h)
 
 is_it : (t b : ℕ) → (t == b) ≡ true → (test (Byte b) t || false) ≡ true
 is_it t b e = ap (λ v. v || false) e
@@ -83,12 +76,12 @@ module _ (key other : Grammar Class) where
 
   step : (m b : ℕ) (bs : List ℕ) {ts mid : List ℕ} {e : End ℕ} → test WordByte b ≡ true → ((us : List ℕ) → Runs system (part (word_part (suc m))) us (took mid) → Follows bs key other us mid e → Runs system (keyed (suc m) bs key other) us e) →
       Runs system (word_rest (suc (suc m))) ts (took mid) → Follows (b ∷ bs) key other ts mid e → Runs system (keyed (suc (suc m)) (b ∷ bs) key other) ts e
-  step m b bs {mid = mid} w again (run_left c (run_both (take_token {t} {ts = us} h) q)) f = elim (decide (t == b)) [
+  step m b bs {mid = mid} w again (run_left c (run_both (take_token {t} {ts = us} h) q)) f = elim (cases_Bool (t == b)) [
     | inl x ↦ run_left (is_it t b x) (run_both (take_token x) (again us q (tail_follows bs t b (eqb-true t b x) f)))
     | inr x ↦ run_right (is_not t b x) (run_left (other_begins t b h x) (run_both (take_token (other_test t b h x)) (run_both q (other_run (b ∷ bs) (λ e. true≢false (sym (eq-eqb t b (same_head t b us (bs ++ mid) e)) ∙ x)) f))))
   ]
   step m b bs {ts = ws} {mid = mid} w again (run_right c (run_left d (run_both (take_token {t} {ts = us} h) (run_both (take_token k) q)))) f =
-      run_right (not_this b w ws c) (run_right (not_other b ws c) (run_left d (run_both (take_token h) (run_both (take_token k) (run_both q (other_run (b ∷ bs) (λ e. true≢false (sym w ∙ (ap is_word_byte (sym (same_head t b us (bs ++ mid) e)) ∙ or_no (is_word_byte t) c))) f))))))
+      run_right (not_this b w ws c) (run_right (not_other b ws c) (run_left d (run_both (take_token h) (run_both (take_token k) (run_both q (other_run (b ∷ bs) (λ e. true≢false (sym w ∙ (ap is_word_byte (sym (same_head t b us (bs ++ mid) e)) ∙ or_false_is (is_word_byte t) c))) f))))))
   step m b bs {ts} w again (run_right c (run_right d take_nothing)) f =
       run_right (not_this b w ts c) (run_right (not_other b ts c) (run_right d (other_run (b ∷ bs) (λ e. let a = ap length e in let l = length-append bs ts in omega arith) f)))
 
@@ -109,7 +102,7 @@ module _ (key other : Grammar Class) where
 
   fails_by_step : (m b : ℕ) (bs : List ℕ) {ts rest : List ℕ} → test WordByte b ≡ true → ((us : List ℕ) → Runs system (part (word_part (suc m))) us (failed rest) → Runs system (keyed (suc m) bs key other) us (failed rest)) →
       Runs system (word_rest (suc (suc m))) ts (failed rest) → Runs system (keyed (suc (suc m)) (b ∷ bs) key other) ts (failed rest)
-  fails_by_step m b bs w again (run_left c (run_both (take_token {t} {ts = us} h) q)) = elim (decide (t == b)) [
+  fails_by_step m b bs w again (run_left c (run_both (take_token {t} {ts = us} h) q)) = elim (cases_Bool (t == b)) [
     | inl x ↦ run_left (is_it t b x) (run_both (take_token x) (again us q))
     | inr x ↦ run_right (is_not t b x) (run_left (other_begins t b h x) (run_both (take_token (other_test t b h x)) (run_first q)))
   ]
@@ -128,13 +121,13 @@ module _ (key other : Grammar Class) where
 
 -- an interface, or a literal whose handle is a word
 pub item_run : {ts mid : List ℕ} {e : End ℕ} → Runs system word ts (took mid) → Follows (codes "iface") (alt bag behind_handle) behind_handle ts mid e → Runs system first_item ts e
-item_run {mid = mid} (run_both (take_token {t} {ts = us} h) q) f = elim (decide (t == 105)) [
+item_run {mid = mid} (run_both (take_token {t} {ts = us} h) q) f = elim (cases_Bool (t == 105)) [
   | inl x ↦ run_left (is_it t 105 x) (run_both (take_token x) (keyed_run (alt bag behind_handle) behind_handle 254 (codes "face") (omega arith) (refl, (refl, (refl, (refl, tt)))) q (tail_follows (codes "face") t 105 (eqb-true t 105 x) f)))
   | inr x ↦ run_right (is_not t 105 x) (run_left (other_begins t 105 h x) (run_both (take_token (other_test t 105 h x)) (run_both q (other_run (codes "iface") (λ e. true≢false (sym (eq-eqb t 105 (same_head t 105 us (codes "face" ++ mid) e)) ∙ x)) f))))
 ]
 
 pub item_fails : {ts rest : List ℕ} → is_next system (WordByte ∷ []) ts ≡ true → Runs system word ts (failed rest) → Runs system first_item ts (failed rest)
-item_fails b (run_both (take_token {t} {ts = us} h) q) = elim (decide (t == 105)) [
+item_fails b (run_both (take_token {t} {ts = us} h) q) = elim (cases_Bool (t == 105)) [
   | inl x ↦ run_left (is_it t 105 x) (run_both (take_token x) (keyed_fails (alt bag behind_handle) behind_handle 254 (codes "face") (omega arith) (refl, (refl, (refl, (refl, tt)))) q))
   | inr x ↦ run_right (is_not t 105 x) (run_left (other_begins t 105 h x) (run_both (take_token (other_test t 105 h x)) (run_first q)))
 ]

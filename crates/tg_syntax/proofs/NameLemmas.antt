@@ -5,10 +5,11 @@ use Rattle.std.proofs.lemmas.Bool.{true≢false, eqb-true}
 use Rattle.std.proofs.lemmas.List.{append_cancel_left, append_cancel_right, take-append-drop}
 use Rattle.std.proofs.lemmas.Slice.Eq.{bytes_eq-Decides}
 use Rattle.gr_base.specs.Lists.{IsAmong}
+use Rattle.gr_base.proofs.Booleans.{or_false_is}
 use Rattle.gr_text.specs.Words.{is_word_byte}
 use Rattle.gr_grammar.specs.Grammars.{Runs, took, failed, take_token, bad_token, bad_end, run_both, run_first, run_left, run_right, is_next}
-use Rattle.gr_grammar.proofs.Fronts.{or_cases, or_left, or_right}
-use Rattle.gr_grammar.proofs.Runs.{one_run}
+use Rattle.gr_grammar.proofs.Fronts.{or_cases, or_left, or_right, not_true}
+use Rattle.gr_grammar.proofs.Runs.{one_run, took≢failed, same_took, same_failed}
 use Rattle.tg_syntax.specs.declared.class.Class.TheVariants.{WordByte}
 use Rattle.tg_syntax.specs.Names.{word_rest, word, term}
 use Rattle.tg_syntax.specs.Files.{system}
@@ -25,12 +26,8 @@ among_one_of (t ∷ ts) text (inl e) = or_left (bytes_eq t text) _ ((bytes_eq-De
 among_one_of (t ∷ ts) text (inr h) = or_right (bytes_eq t text) _ (among_one_of ts text h)
 
 -- a word that stops, stops behind a dash, or before its first byte
-or_true : (b : Bool) → (b || false) ≡ true → b ≡ true
-or_true true h = refl
-or_true false h = h
-
 contrary : (b : Bool) → (b || false) ≡ true → b ≡ false → ⊥
-contrary b t f = true≢false (sym (or_true b t) ∙ f)
+contrary b t f = true≢false (sym (or_false_is b t) ∙ f)
 
 rest_stop : (n : ℕ) {ts rest : List ℕ} → Runs system (word_rest n) ts (failed rest) → (name : List ℕ) × (ts ≡ name ++ 45 ∷ rest)
 rest_stop zero r = elim r [ ]
@@ -53,53 +50,40 @@ word_stop (run_both (take_token {t} h) q) = let x = rest_stop 254 (out_word 254 
 word_stop (run_first (bad_token h)) = inl refl
 word_stop (run_first bad_end) = inl refl
 
-or_no : (b : Bool) → (b || false) ≡ false → b ≡ false
-or_no true h = h
-or_no false h = refl
-
 at_once : (ts : List ℕ) → is_next system (WordByte ∷ []) ts ≡ false → Runs system word ts (failed ts)
 at_once [] b = run_first bad_end
-at_once (t ∷ ts) b = run_first (bad_token (or_no (is_word_byte t) b))
-
-same_took : {a b : List ℕ} → took a ≡ took b → a ≡ b
-same_took e = cc
-
-same_failed : {a b : List ℕ} → failed a ≡ failed b → a ≡ b
-same_failed e = cc
-
-took_failed : {a b : List ℕ} → took a ≡ failed b → ⊥
-took_failed e = cc
+at_once (t ∷ ts) b = run_first (bad_token (or_false_is (is_word_byte t) b))
 
 pub not_longer : (ts text : List ℕ) → ts ≡ text ++ 45 ∷ ts → ⊥
 not_longer ts text e = let a = ap length e in let b = length-append text (45 ∷ ts) in omega arith
 
 never_both : {ts rest : List ℕ} (text left : List ℕ) → Runs system term ts (took rest) → IsDashed ts text left → ⊥
-never_both text left (run_left b w) d = took_failed (one_run system w d.1)
+never_both text left (run_left b w) d = took≢failed _ _ (one_run system w d.1)
 never_both {ts} text left (run_right b x) d =
-    let same : ts ≡ left = same_failed (one_run system (at_once ts b) d.1) in
+    let same : ts ≡ left = same_failed _ _ (one_run system (at_once ts b) d.1) in
     not_longer ts text (d.0 ∙ ap (λ z. text ++ 45 ∷ z) (sym same))
 
 pub one_name : {ts : List ℕ} (text rest : List ℕ) (other left : List ℕ) → HasName ts text rest → HasName ts other left → (text ≡ other) × (rest ≡ left)
 one_name text rest other left (whole a b e r) (whole c d f s) =
-    let same : rest ≡ left = same_took (one_run system r s) in
+    let same : rest ≡ left = same_took _ _ (one_run system r s) in
     (append_cancel_right text other rest (sym e ∙ (f ∙ ap (λ z. other ++ z) (sym same))), same)
 one_name text rest other left (whole a b e r) (before_dash c d f) = absurd (never_both other left r f)
 one_name text rest other left (before_dash a b e) (whole c d f s) = absurd (never_both text rest s e)
 one_name text rest other left (before_dash a b e) (before_dash c d f) =
-    let same : rest ≡ left = same_failed (one_run system e.1 f.1) in
+    let same : rest ≡ left = same_failed _ _ (one_run system e.1 f.1) in
     (append_cancel_right text other (45 ∷ rest) (sym e.0 ∙ (f.0 ∙ ap (λ z. other ++ 45 ∷ z) (sym same))), same)
 
 -- where the term stops, a name is there only before a dash
 pub no_whole : {ts left : List ℕ} → Runs system term ts (failed left) → ((text rest : List ℕ) → IsDashed ts text rest → ⊥) → (text rest : List ℕ) → HasName ts text rest → ⊥
-no_whole r n text rest (whole a b e s) = took_failed (one_run system s r)
+no_whole r n text rest (whole a b e s) = took≢failed _ _ (one_run system s r)
 no_whole r n text rest (before_dash a b d) = n text rest d
 
 pub no_dash : {ts left : List ℕ} → Runs system word ts (took left) → (text rest : List ℕ) → IsDashed ts text rest → ⊥
-no_dash r text rest d = took_failed (one_run system r d.1)
+no_dash r text rest d = took≢failed _ _ (one_run system r d.1)
 
 pub no_front : {ts left : List ℕ} → Runs system word ts (failed left) → ts ≡ left → (text rest : List ℕ) → IsDashed ts text rest → ⊥
 no_front {ts} {left} r e text rest d =
-    let same : rest ≡ ts = same_failed (one_run system d.1 r) ∙ sym e in
+    let same : rest ≡ ts = same_failed _ _ (one_run system d.1 r) ∙ sym e in
     not_longer ts text (d.0 ∙ ap (λ z. text ++ 45 ∷ z) same)
 
 pub obeys : (ts : List ℕ) → (HasReserved ts → ⊥) → ((value : List ℕ) → ts ≡ codes "mark=" ++ value → HasNoMark value → ⊥) → Obeys ts
@@ -140,17 +124,13 @@ reserved_there text rest b e n l = (
   λ h. let o = one_name text rest h.0 h.1 n h.2 in e ∙ among_one_of reserved text (subst (IsAmong reserved) (sym o.0) h.4),
 )
 
-not_yes : (b : Bool) → not b ≡ true → b ≡ true → ⊥
-not_yes true h k = true≢false (sym h)
-not_yes false h k = true≢false (sym k)
-
 yes_not : (b : Bool) → (b ≡ true → ⊥) → not b ≡ true
 yes_not true h = absurd (h refl)
 yes_not false h = refl
 
 pub mark_there : {ts : List ℕ} (text rest : List ℕ) (b : Bool) → b ≡ is_one_of written_marks text → HasName ts text rest → (length rest ≡ 0 → ⊥) → (not b ≡ true) ↔ HasNoMark ts
 mark_there text rest b e n l = (
-  λ h. (text, rest, n, omega arith, λ k. not_yes b h (e ∙ among_one_of written_marks text k)),
+  λ h. (text, rest, n, omega arith, λ k. not_true b h (e ∙ among_one_of written_marks text k)),
   λ h. let o = one_name text rest h.0 h.1 n h.2 in yes_not b (λ k. h.4 (subst (IsAmong written_marks) o.0 (one_of_among written_marks text (sym e ∙ k)))),
 )
 

@@ -4,7 +4,7 @@ use Rattle.std.specs.Prelude.{◌==◌, ◌&&◌, ◌||◌, not, codes, map, sli
 use Rattle.std.specs.Fmt.{decimal}
 use Rattle.std.specs.Int.{IsInRange}
 use Rattle.std.specs.Str.Parse.{AllDigits}
-use Rattle.std.proofs.lemmas.Bool.{true≢false, eqb-true}
+use Rattle.std.proofs.lemmas.Bool.{true≢false, eqb-true, and_from}
 use Rattle.std.proofs.lemmas.List.{append_cancel_right}
 use Rattle.std.proofs.lemmas.Slice.Eq.{bytes_eq-Decides}
 use Rattle.std.proofs.lemmas.Str.Parse.{digit_from_value}
@@ -78,10 +78,6 @@ word_text (b ∷ bs) rest w l =
 string_inside : (n : ℕ) {ts rest : List ℕ} → Matches system (string_rest n) ts rest → Matches system (part (string_part n)) ts rest
 string_inside n {ts} {rest} m = by_part {n = string_part n} (subst (λ g. Matches system g ts rest) (sym (parts_string n)) m)
 
-both_true : (a b : Bool) → a ≡ true → b ≡ true → (a && b) ≡ true
-both_true true b h k = k
-both_true false b h k = h
-
 differs : (a b : ℕ) → (a ≡ b → ⊥) → not (a == b) ≡ true
 differs a b n = by (a == b) refl
   where
@@ -90,7 +86,7 @@ differs a b n = by (a == b) refl
     by false e = ap not e
 
 string_byte : (b : ℕ) → IsStringByte b → is_string_byte b ≡ true
-string_byte b h = both_true _ _ (le-leb 32 b h.0) (both_true _ _ (differs b 34 h.1) (both_true _ _ (differs b 92 h.2) (differs b 127 h.3)))
+string_byte b h = and_from _ _ (le-leb 32 b h.0) (and_from _ _ (differs b 34 h.1) (and_from _ _ (differs b 92 h.2) (differs b 127 h.3)))
 
 string_goes : (n : ℕ) (bs rest : List ℕ) → length bs ≤ n → Each IsStringByte bs → Matches system (string_rest n) (bs ++ rest) rest
 string_goes zero [] rest l h = no_token
@@ -106,7 +102,7 @@ string_text t rest h l =
 -- ---- numbers
 
 digit : (c : ℕ) → IsInRange 48 57 c → test Digit c ≡ true
-digit c range = both_true _ _ (le-leb 48 c (omega (arith, range))) (le-leb c 57 (omega (arith, range)))
+digit c range = and_from _ _ (le-leb 48 c (omega (arith, range))) (le-leb c 57 (omega (arith, range)))
 
 digits_text : (n : ℕ) (ds rest : List ℕ) → length ds ≤ n → AllDigits 10 ds → Matches system (digits n) (ds ++ rest) rest
 digits_text zero [] rest l d = no_token
@@ -118,7 +114,7 @@ long_text : (t rest : List ℕ) → AllDigits 10 t → 0 < length t → length t
 long_text [] rest d o l n = absurd (omega arith)
 long_text (c ∷ cs) rest d o l n =
     let range : IsInRange 48 57 c = digit_from_value c d.0 in
-    the_right (both (a_token (both_true _ _ (le-leb 49 c (above c range n)) (le-leb c 57 (omega (arith, range))))) (digits_text 8 cs rest (omega arith) d.1))
+    the_right (both (a_token (and_from _ _ (le-leb 49 c (above c range n)) (le-leb c 57 (omega (arith, range))))) (digits_text 8 cs rest (omega arith) d.1))
   where
     above : (c : ℕ) → IsInRange 48 57 c → (c ≡ 48 → ⊥) → 49 ≤ c
     above c range n = omega (arith, range, n)

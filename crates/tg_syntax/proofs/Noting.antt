@@ -1,8 +1,9 @@
 -- Readings that look at properties, part by part.
 use Rattle.std.proofs.Common.{◌≡◌, ℕ, zero, suc, ◌-◌, ◌≤◌, List, [], ◌∷◌, ◌++◌, length, Bool, true, false, refl, ap, sym, ◌∙◌, subst, arith, append_assoc, append-nil}
 use Rattle.std.specs.Prelude.{◌==◌, ◌&&◌, Option, None, Some, MatchOption, Result, Ok, Err, if◌then◌else◌}
-use Rattle.std.proofs.lemmas.Bool.{true≢false, eqb-true}
+use Rattle.std.proofs.lemmas.Bool.{true≢false, eqb-true, and_from}
 use Rattle.gr_base.proofs.ListLemmas.{Each-append}
+use Rattle.gr_base.proofs.Numbers.{one_less}
 use Rattle.gr_grammar.specs.Grammars.{Grammar, tok, nil, seq, alt, star, part, Runs, End, took, failed, take_token, bad_token, bad_end, take_nothing, run_both, run_first, run_left, run_right, run_end, run_more, run_part, begins, is_next, Rounds, start, round}
 use Rattle.gr_grammar.proofs.Fronts.{and_left, and_right}
 use Rattle.gr_grammar.proofs.Loops.{close}
@@ -44,20 +45,16 @@ string_is_plain : (n : ℕ) → plain_part (string_part n) ≡ true
 unfolding plain_part
 string_is_plain n = pick_string (λ m. true) (λ m. true) (λ m. false) (λ m. false) n
 
-and_both : (a b : Bool) → a ≡ true → b ≡ true → (a && b) ≡ true
-and_both true b e h = h
-and_both false b e h = e
-
 plain_word : (n : ℕ) → IsPlainIf (word_rest n) true
 unfolding plain plain_part
 plain_word zero h = refl
 plain_word (suc zero) h = refl
-plain_word (suc (suc n)) h = and_both _ _ (word_is_plain (suc n)) (and_both _ _ (word_is_plain n) refl)
+plain_word (suc (suc n)) h = and_from _ _ (word_is_plain (suc n)) (and_from _ _ (word_is_plain n) refl)
 
 plain_string : (n : ℕ) → IsPlainIf (string_rest n) true
 unfolding plain plain_part
 plain_string zero h = refl
-plain_string (suc n) h = and_both _ _ (string_is_plain n) refl
+plain_string (suc n) h = and_from _ _ (string_is_plain n) refl
 
 pub parts_plain : (n : ℕ) → plain_part n ≡ true → plain (parts n) ≡ true
 unfolding plain_part
@@ -83,7 +80,7 @@ plain_begun (run_first {g} {h} a) p = plain_begun a (and_left (plain g) (plain h
 plain_begun (run_left {g} {h} b a) p = plain_begun a (and_left (plain g) (plain h) p)
 plain_begun (run_right {g} {h} b a) p = plain_begun a (and_right (plain g) (plain h) p)
 plain_begun (run_end b) p = refl
-plain_begun (run_more {g} b a) p = plain_begun a (and_both (plain g) (plain g) p p)
+plain_begun (run_more {g} b a) p = plain_begun a (and_from (plain g) (plain g) p p)
 plain_begun (run_part {n} {ts} a) p = not_property (n == PROPERTY) (ts ∷ begun PROPERTY a) (begun PROPERTY a) (no_property_there n (n == PROPERTY) refl p) (plain_begun a (parts_plain n p))
 
 -- ---- notes, one part after another
@@ -195,9 +192,6 @@ row_below r = below r.rounds
 
 -- ---- parts that may be left out
 
-less_one : (n : ℕ) → suc n - 1 ≡ n
-less_one n = omega arith
-
 pub no_braces : (room : ℕ) {ts : List ℕ} {a : Option ℕ} → room ≡ 0 → Read (braces room) ts (took ts) a a
 unfolding plain plain_part
 no_braces zero {a = a} e = plain_read refl take_nothing a
@@ -228,7 +222,7 @@ kids_inside r = seq (tok (Byte 40)) (seq (part (node_part r)) (seq (star (seq (t
 
 pub some_kids : (room : ℕ) {ts : List ℕ} {e : End ℕ} {a b : Option ℕ} → (room ≡ 0 → ⊥) → is_next system (Byte 40 ∷ []) ts ≡ true → Read (kids_inside (room - 1)) ts e a b → Read (kids room) ts e a b
 some_kids zero h d x = absurd (h refl)
-some_kids (suc r) {ts} {e} {a} {b} h d x = left_read d (subst (λ m. Read (kids_inside m) ts e a b) (less_one r) x)
+some_kids (suc r) {ts} {e} {a} {b} h d x = left_read d (subst (λ m. Read (kids_inside m) ts e a b) (one_less r) x)
 
 -- bytes, numbers and the like
 pub token_read : {c : Class} {ts : List ℕ} {e : End ℕ} → Runs system (tok c) ts e → (a : Option ℕ) → Read (tok c) ts e a a

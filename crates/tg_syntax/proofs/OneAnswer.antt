@@ -6,7 +6,7 @@ use Rattle.gr_base.specs.Lists.{Each, IsAmong}
 use Rattle.gr_base.proofs.ListLemmas.{same_head, same_tail, Each-right}
 use Rattle.gr_text.specs.declared.Place.{Place}
 use Rattle.gr_grammar.specs.Grammars.{System, Grammar, Runs, End, took, failed, take_token, bad_token, bad_end, take_nothing, run_both, run_first, run_left, run_right, run_end, run_more, run_part, begins}
-use Rattle.gr_grammar.proofs.Runs.{one_run}
+use Rattle.gr_grammar.proofs.Runs.{one_run, took≢failed, same_took}
 use Rattle.gr_grammar.proofs.Places.{one_fault, no_fault}
 use Rattle.tg_syntax.specs.Names.{term}
 use Rattle.tg_syntax.specs.Trees.{PROPERTY}
@@ -18,12 +18,6 @@ use Rattle.tg_syntax.proofs.Steps.{in_word}
 use Rattle.tg_syntax.proofs.NameLemmas.{one_name, one_value}
 
 -- ---- the properties that a run meets
-
-took_failed : {a b : List ℕ} → took a ≡ failed b → ⊥
-took_failed e = cc
-
-left_in : {a b : List ℕ} → took a ≡ took b → a ≡ b
-left_in e = cc
 
 module _ {C : Type 0} (S : System C ℕ) where
   one_end : {g : Grammar C} {ts us : List ℕ} {e f : End ℕ} → ts ≡ us → Runs S g ts e → Runs S g us f → e ≡ f
@@ -43,9 +37,9 @@ module _ {C : Type 0} (S : System C ℕ) where
   same_begun p q bad_end (bad_token k) = refl
   same_begun p q bad_end bad_end = refl
   same_begun p q take_nothing take_nothing = refl
-  same_begun p q (run_both a b) (run_both c d) = (λ i. same_begun p q a c i ++ same_begun p (left_in (one_end q a c)) b d i)
-  same_begun p q (run_both a b) (run_first c) = absurd (took_failed (one_end q a c))
-  same_begun p q (run_first a) (run_both c d) = absurd (took_failed (sym (one_end q a c)))
+  same_begun p q (run_both a b) (run_both c d) = (λ i. same_begun p q a c i ++ same_begun p (same_took _ _ (one_end q a c)) b d i)
+  same_begun p q (run_both a b) (run_first c) = absurd (took≢failed _ _ (one_end q a c))
+  same_begun p q (run_first a) (run_both c d) = absurd (took≢failed _ _ (sym (one_end q a c)))
   same_begun p q (run_first a) (run_first c) = same_begun p q a c
   same_begun p q (run_left h a) (run_left k c) = same_begun p q a c
   same_begun p q (run_left {g} h a) (run_right k c) = absurd (other_way g q h k)

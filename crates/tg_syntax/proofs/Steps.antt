@@ -1,6 +1,7 @@
 -- The steps of functions that take parts of grammar text.
 use Rattle.std.proofs.Common.{◌≡◌, ℕ, zero, suc, ◌-◌, ◌<◌, ◌≤◌, List, [], ◌∷◌, length, true, false, refl, sym, ◌∙◌, subst, arith, inl, inr}
 use Rattle.std.proofs.lemmas.Bool.{true≢false, cases_lt}
+use Rattle.gr_base.proofs.Numbers.{one_less}
 use Rattle.gr_grammar.specs.Grammars.{Grammar, tok, part, Runs, End, took, failed, take_nothing, run_both, run_first, run_left, run_right, run_part, tree_of, is_next, nullable, Rounds, start, round}
 use Rattle.gr_grammar.proofs.Fronts.{null_of, no_longer}
 use Rattle.tg_syntax.specs.declared.class.Class.{Class}
@@ -19,9 +20,6 @@ in_string n {ts} {e} r = run_part {n = string_part n} (subst (λ g. Runs system 
 
 -- ---- words
 
-less_one : (n : ℕ) → suc n - 1 ≡ n
-less_one n = omega arith
-
 less_two : (n : ℕ) → suc (suc n) - 2 ≡ n
 less_two n = omega arith
 
@@ -32,7 +30,7 @@ word_full (suc n) ts h = absurd (omega arith)
 pub word_on : (left : ℕ) {ts mid : List ℕ} → (left ≡ 0 → ⊥) → is_next system (WordByte ∷ []) ts ≡ true → Runs system (tok WordByte) ts (took mid) → (e : End ℕ) → Runs system (part (word_part (left - 1))) mid e → Runs system (part (word_part left)) ts e
 word_on zero h b t e k = absurd (h refl)
 word_on (suc zero) h b t e k = in_word 1 (run_left b (run_both t k))
-word_on (suc (suc n)) {mid} h b t e k = in_word (suc (suc n)) (run_left b (run_both t (subst (λ m. Runs system (part (word_part m)) mid e) (less_one (suc n)) k)))
+word_on (suc (suc n)) {mid} h b t e k = in_word (suc (suc n)) (run_left b (run_both t (subst (λ m. Runs system (part (word_part m)) mid e) (one_less (suc n)) k)))
 
 pub word_one_left : (left : ℕ) {ts : List ℕ} → left ≡ 1 → is_next system (WordByte ∷ []) ts ≡ false → Runs system (part (word_part left)) ts (took ts)
 word_one_left zero h b = absurd (omega arith)
@@ -60,7 +58,7 @@ word_stops (suc (suc n)) h g b d t u = in_word (suc (suc n)) (run_right b (run_l
 
 pub string_on : (left : ℕ) {ts mid : List ℕ} → 0 < left → is_next system (StringByte ∷ []) ts ≡ true → Runs system (tok StringByte) ts (took mid) → (e : End ℕ) → Runs system (part (string_part (left - 1))) mid e → Runs system (part (string_part left)) ts e
 string_on zero h b t e k = absurd (omega arith)
-string_on (suc n) {mid} h b t e k = in_string (suc n) (run_left b (run_both t (subst (λ m. Runs system (part (string_part m)) mid e) (less_one n) k)))
+string_on (suc n) {mid} h b t e k = in_string (suc n) (run_left b (run_both t (subst (λ m. Runs system (part (string_part m)) mid e) (one_less n) k)))
 
 pub string_full : (left : ℕ) (ts : List ℕ) → left ≤ 0 → Runs system (part (string_part left)) ts (took ts)
 string_full zero ts h = in_string 0 take_nothing
@@ -72,7 +70,7 @@ string_ends (suc n) ts b = in_string (suc n) (run_right b take_nothing)
 
 pub digits_on : (left : ℕ) {ts mid : List ℕ} → 0 < left → is_next system (Digit ∷ []) ts ≡ true → Runs system (tok Digit) ts (took mid) → (e : End ℕ) → Runs system (digits (left - 1)) mid e → Runs system (digits left) ts e
 digits_on zero h b t e k = absurd (omega arith)
-digits_on (suc n) {mid} h b t e k = run_left b (run_both t (subst (λ m. Runs system (digits m) mid e) (less_one n) k))
+digits_on (suc n) {mid} h b t e k = run_left b (run_both t (subst (λ m. Runs system (digits m) mid e) (one_less n) k))
 
 pub digits_full : (left : ℕ) (ts : List ℕ) → left ≤ 0 → Runs system (digits left) ts (took ts)
 digits_full zero ts h = take_nothing

@@ -5,6 +5,7 @@ use Rattle.std.proofs.Common.{inl, inr, ap, sym, ◌∙◌, subst, arith, append
 use Rattle.std.proofs.lemmas.List.{append-nil, map-append}
 use Rattle.gr_base.specs.Lists.{Each, IsAmong, NoneTwice, gathered, joined}
 use Rattle.gr_base.proofs.ListLemmas.{Each-append, NoneTwice-push}
+use Rattle.gr_base.proofs.Gathering.{gathered-append}
 use Rattle.gr_symbols.specs.Numbers.{Grows, Names}
 use Rattle.gr_symbols.proofs.NumberLemmas.{Names-within}
 use Rattle.gr_terms.specs.declared.Sym.{Sym}
@@ -13,7 +14,6 @@ use Rattle.td_canon.specs.TreeSets.{texts_of}
 use Rattle.td_canon.specs.declared.tree_set.ClassTrees.{ClassTrees}
 use Rattle.td_canon.proofs.OrderLemmas.{texts_apart}
 use Rattle.td_canon.proofs.ValueLemmas.{text_in-names}
-use Rattle.tg_reader.proofs.Rows.{gathered-append}
 use Rattle.tg_reader.specs.Writable.{IsTable, IsWord}
 use Rattle.tg_text.specs.Answers.{IsReadClass}
 use Rattle.tg_text.specs.GrammarText.{ClassText, class_text, class_text_of, closing_word, ended, tree_lines}

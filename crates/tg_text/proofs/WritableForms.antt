@@ -5,6 +5,7 @@ use Rattle.std.proofs.lemmas.List.{length-map}
 use Rattle.gr_base.specs.Lists.{IsAmong, Each}
 use Rattle.gr_base.specs.Forests.{Forest, empty, tree, labels, map_forest, size}
 use Rattle.gr_base.proofs.ListLemmas.{Each-at, Each-append, Each-left, Each-members, Each-right, IsAmong-map_from}
+use Rattle.gr_base.proofs.ForestLemmas.{size-map, one_tree-map}
 use Rattle.gr_text.specs.Words.{is_word, quoted}
 use Rattle.gr_terms.specs.BagViews.{pairs_of}
 use Rattle.gr_terms.specs.Bags.{IsListed}
@@ -35,7 +36,7 @@ use Rattle.td_canon.proofs.UniqueForms.{one_form}
 use Rattle.tg_syntax.specs.Breaks.{reserved, marks}
 use Rattle.tg_reader.specs.Writable.{IsMark, IsTable, IsWritableLiteral, IsWritableNode, IsWritableOwn, IsWritablePair, IsWritableTerm, IsWritableTree}
 use Rattle.tg_reader.proofs.Held.{category_from, properties_from}
-use Rattle.tg_reader.proofs.Readable.{one-map, place_within, size-map}
+use Rattle.tg_reader.proofs.Readable.{place_within}
 use Rattle.tg_reader.proofs.WalkLengths.{walk_length}
 use Rattle.tg_text.proofs.FileTexts.{IsTaken}
 use Rattle.tg_text.proofs.FormTexts.{CanWrite, CanWriteForm, CanWriteLiteral, CanWriteNode, CanWritePair, CanWriteProperty, form_takes}
@@ -182,7 +183,7 @@ module _ (texts : List (List ℕ)) (table : IsTable texts) where
         let count : size (map_forest (form_node text label) (map_forest lists_of f)) ≡ length t.nodes =
         size-map (form_node text label) (map_forest lists_of f) ∙ size-map lists_of f ∙ sym (length-preorder 0 None f) ∙ ap length (sym laid) in
         record {
-          one = one-map (form_node text label) (map_forest lists_of f) (one-map lists_of f has.nodes.one);
+          one = one_tree-map (form_node text label) (map_forest lists_of f) (one_tree-map lists_of f has.nodes.one);
           few = omega (arith, count, has.nodes.few);
           nodes = write_nodes 0 None f (subst (Each (IsNamedNode (length texts))) laid has.named.nodes) (subst (Each (IsWritableNode texts)) laid h.nodes);
           interface = write_bag t.iface h.iface;

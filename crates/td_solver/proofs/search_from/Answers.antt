@@ -1,4 +1,5 @@
 use Rattle.std.proofs.Common.{◌≡◌, ℕ, ◌+◌, ◌-◌, ◌<◌, List, length, subst, sym}
+use Rattle.gr_base.proofs.Results.{IfOk-weaker}
 use Rattle.gr_terms.specs.Networks.{Agrees}
 use Rattle.td_canon.specs.CanonicalTexts.{text_in}
 use Rattle.td_desc.specs.declared.Description.{Description}
@@ -10,7 +11,6 @@ use Rattle.td_solver.specs.declared.Solved.{Solved}
 use Rattle.td_solver.specs.declared.Solved.TheVariants.{All, Cut}
 use Rattle.td_solver.specs.Solutions.{IsModelTotal, GainsAll}
 use Rattle.td_solver.specs.Turns.{IsSpent, HasAllBelow}
-use Rattle.td_solver.proofs.Choosing.{ok_map}
 use Rattle.td_solver.proofs.Solving.{empty_model, all_of, spent_of, cut_of}
 use Rattle.td_solver.proofs.search_from.Goals as goal
 
@@ -28,7 +28,7 @@ returns-clause-all c =
     let k = c.in_ok-task.ensures.task in
     let e = c.in_ok-task.ensures.of in
     let agrees : Agrees (description_of t.d.now).network = subst (λ (x : Description). Agrees (description_of x).network) (sym e) c.requires.loaded.agrees in
-    ok_map (λ (s : Solved). s ≡ All → HasAllBelow (text_in t.symbols.now) (description_of t.d.now) (t.count - 0) 0 (forest_of c.new-forest.result) c.explore.new.out)
+    IfOk-weaker (λ (s : Solved). s ≡ All → HasAllBelow (text_in t.symbols.now) (description_of t.d.now) (t.count - 0) 0 (forest_of c.new-forest.result) c.explore.new.out)
     (λ (s : Solved). s ≡ All → GainsAll c.args.symbols.now (description_of c.args.d.now) c.args.out.now c.explore.new.out) c.explore.result
     (λ s h q.
     subst (λ (x : List (List ℕ)). GainsAll x (description_of c.args.d.now) c.args.out.now c.explore.new.out) c.in_ok-task.ensures.texts
@@ -43,7 +43,7 @@ returns-clause-spent c =
     let k = c.in_ok-task.ensures.task in
     let e = c.in_ok-task.ensures.of in
     let agrees : Agrees (description_of t.d.now).network = subst (λ (x : Description). Agrees (description_of x).network) (sym e) c.requires.loaded.agrees in
-    ok_map (λ (s : Solved). IsSpent (description_of t.d.now) (t.count - 0) 0 (forest_of c.new-forest.result) c.args.budget.now.left c.explore.new.budget.left s)
+    IfOk-weaker (λ (s : Solved). IsSpent (description_of t.d.now) (t.count - 0) 0 (forest_of c.new-forest.result) c.args.budget.now.left c.explore.new.budget.left s)
     (λ (s : Solved). s ≡ All → (total : ℕ) → IsModelTotal (description_of c.args.d.now) (length c.args.d.now.nodes) total → c.args.budget.now.left ≡ c.explore.new.budget.left + total) c.explore.result
     (λ s h q total count.
     spent_of t.d.now t.symbols.now k.distinct k.named t.count k.count k.first agrees c.args.budget.now.left c.explore.new.budget.left
@@ -58,7 +58,7 @@ returns-clause-cut c =
     let k = c.in_ok-task.ensures.task in
     let e = c.in_ok-task.ensures.of in
     let agrees : Agrees (description_of t.d.now).network = subst (λ (x : Description). Agrees (description_of x).network) (sym e) c.requires.loaded.agrees in
-    ok_map (λ (s : Solved). IsSpent (description_of t.d.now) (t.count - 0) 0 (forest_of c.new-forest.result) c.args.budget.now.left c.explore.new.budget.left s)
+    IfOk-weaker (λ (s : Solved). IsSpent (description_of t.d.now) (t.count - 0) 0 (forest_of c.new-forest.result) c.args.budget.now.left c.explore.new.budget.left s)
     (λ (s : Solved). s ≡ Cut → (total : ℕ) → IsModelTotal (description_of c.args.d.now) (length c.args.d.now.nodes) total → c.args.budget.now.left < total) c.explore.result
     (λ s h q total count.
     cut_of t.d.now t.symbols.now k.distinct k.named t.count k.count k.first agrees c.args.budget.now.left c.explore.new.budget.left

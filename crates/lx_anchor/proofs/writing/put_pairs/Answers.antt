@@ -1,11 +1,12 @@
 use Rattle.std.proofs.Common.{arith}
+use Rattle.gr_base.proofs.ListLemmas.{slice_get-mapped}
 use Rattle.gr_terms.specs.Views.{network_of}
 use Rattle.gr_terms.specs.declared.Sym.{Sym}
 use Rattle.gr_terms.specs.declared.Term.{Term}
 use Rattle.gr_store.specs.Contents.{IsMade}
 use Rattle.gr_feats.specs.Loading.{counted_from}
 use Rattle.lx_anchor.specs.Sharing.{counted_pairs}
-use Rattle.lx_anchor.proofs.WritingLemmas.{counted-length, listed-counted, mapped-at, put-all, put-more, put-none, slice_get-mapped}
+use Rattle.lx_anchor.proofs.WritingLemmas.{counted-length, listed-counted, mapped-at, put-all, put-more, put-none}
 use Rattle.lx_anchor.proofs.writing.put_pairs.Goals as goal
 
 pub written_term-requires : goal.written_term-requires

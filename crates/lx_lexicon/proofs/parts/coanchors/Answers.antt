@@ -1,5 +1,6 @@
 use Rattle.std.proofs.Common.{◌≡◌, false, true, Err, refl, rules}
 use Rattle.std.specs.Prelude.{codes}
+use Rattle.gr_base.proofs.Zips.{AllZip-none, AllZip-pushed}
 use Rattle.gr_grammar.specs.Grammars.{begins}
 use Rattle.gr_reader.specs.Classes.{keyword, flat}
 use Rattle.gr_reader.specs.declared.reader.Stop.TheVariants.{Memory as NoMemory}
@@ -9,7 +10,7 @@ use Rattle.gr_feats.proofs.PassingLemmas.{pass_texts}
 use Rattle.gr_feats.proofs.ReadingLemmas.{begins_token, shorter, ReadsOn-start, ReadsOn-more}
 use Rattle.lx_lexicon.specs.Grammars.{coanchor_text, coanchor_of}
 use Rattle.lx_lexicon.specs.Reading.{IsCoanchor, AreCoanchors}
-use Rattle.lx_lexicon.proofs.Rows.{row_ended, row_pushed, row_none}
+use Rattle.lx_lexicon.proofs.Rows.{row_ended}
 use Rattle.lx_lexicon.proofs.parts.coanchors.Goals as goal
 
 pub row-init : goal.row-init
@@ -34,12 +35,12 @@ row-preserved c =
     let b : begins flat coanchor_text c.row.reader ≡ true = begins_token (keyword (codes "coanchor")) c.row.reader c.sees.ensures c.row-test.true in
     ReadsOn-more coanchor_text (λ ts rest m. coanchor_of m) (λ texts ws x. AreCoanchors texts ws x.0) _ _ _ _ _ (_, none_met) _ _ (_, none_met)
     c.row.invariant b c.in_ok-next.ensures.reads.0 (pass_texts c.in_ok-next.ensures.passes) c.in_ok-next.ensures.table
-    (λ ws later grows h. row_pushed (IsCoanchor later) ws _ _ _ _ h (c.in_ok-next.ensures.reads.1 later grows) c.in_ok-_next.ensures.ok)
+    (λ ws later grows h. AllZip-pushed (IsCoanchor later) ws _ _ _ _ h (c.in_ok-next.ensures.reads.1 later grows) c.in_ok-_next.ensures.ok)
 
 pub returns-clause-reads : goal.returns-clause-reads
 returns-clause-reads c =
     let b : begins flat coanchor_text c.row.reader ≡ false = begins_token (keyword (codes "coanchor")) c.row.reader c.sees.ensures c.row-test.false in
-    row_ended coanchor_text (λ ts rest m. coanchor_of m) (λ texts ws x. AreCoanchors texts ws x.0) _ _ _ _ _ _ c.row.invariant b (λ later. row_none (IsCoanchor later) _ c.new-row.ensures)
+    row_ended coanchor_text (λ ts rest m. coanchor_of m) (λ texts ws x. AreCoanchors texts ws x.0) _ _ _ _ _ _ c.row.invariant b (λ later. AllZip-none (IsCoanchor later) _ c.new-row.ensures)
 
 pub returns-clause-table : goal.returns-clause-table
 returns-clause-table c = c.row.invariant.puts

@@ -1,6 +1,7 @@
 use Rattle.std.proofs.Common.{length, ap, sym, subst, arith}
 use Rattle.gr_tokens.specs.Answers.{AreTokens}
-use Rattle.lx_lexicon.proofs.FileLemmas.{tokens_few, read_there}
+use Rattle.gr_tokens.proofs.CutLengths.{tokens_few}
+use Rattle.lx_lexicon.proofs.FileLemmas.{read_there}
 use Rattle.lx_lexicon.proofs.read.read_lexicon.Goals as goal
 
 pub returns-clause-answer : goal.returns-clause-answer

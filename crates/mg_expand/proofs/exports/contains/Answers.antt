@@ -4,7 +4,7 @@ use Rattle.std.proofs.lemmas.Bool.{false≢true}
 use Rattle.gr_base.specs.Lists.{IsAmong}
 use Rattle.gr_base.proofs.ListLemmas.{IsAmong-get_or}
 use Rattle.gr_terms.specs.declared.Sym.{Sym}
-use Rattle.mg_scope.proofs.TableLemmas.{same_sym}
+use Rattle.gr_terms.proofs.ViewLemmas.{same_sym}
 use Rattle.mg_expand.proofs.ExportLemmas.{not_among_more}
 use Rattle.mg_expand.proofs.exports.contains.Goals as goal
 

@@ -1,8 +1,9 @@
 use Rattle.std.proofs.Common.{◌≡◌, ◌∷◌, [], length, refl, sym, ap, subst, ◌∙◌, append_assoc, append-nil, arith, length-append, rules}
 use Rattle.std.specs.Vec.Iter.{into_iter_items}
+use Rattle.std.proofs.lemmas.List.{nil_from_length}
 use Rattle.gr_symbols.proofs.NumberLemmas.{Grows-refl, Grows-trans}
 use Rattle.sm_input.specs.Reading.{AreNamed, raw_own_names}
-use Rattle.sm_input.proofs.Naming.{named_none, named_step, nothing_left}
+use Rattle.sm_input.proofs.Naming.{named_none, named_step}
 use Rattle.gr_symbols.specs.Numbers.{with_texts}
 use Rattle.sm_input.proofs.TableLemmas.{own_step}
 use Rattle.sm_input.proofs.inputs.named_literals.Goals as goal
@@ -59,7 +60,7 @@ pub returns-clause-named : goal.returns-clause-named
 returns-clause-named c =
     let at = c.rows in
     let none = c.in-None.ensures.steps in
-    let empty : into_iter_items at.raw-iterator ≡ [] = nothing_left _ (sym at.invariant.4 ∙ none.0) in
+    let empty : into_iter_items at.raw-iterator ≡ [] = nil_from_length _ (sym at.invariant.4 ∙ none.0) in
     let all = sym (append-nil at.yielded) ∙ rw empty at at.invariant.0 ∙ c.into_iter-raw-iterator.ensures.into_iter_gives.0 in
     subst (λ rs. AreNamed at.symbols 1 rs at.literals) all at.invariant.1
 
@@ -75,6 +76,6 @@ pub returns-clause-table : goal.returns-clause-table
 returns-clause-table c =
     let at = c.rows in
     let none = c.in-None.ensures.steps in
-    let empty : into_iter_items at.raw-iterator ≡ [] = nothing_left _ (sym at.invariant.4 ∙ none.0) in
+    let empty : into_iter_items at.raw-iterator ≡ [] = nil_from_length _ (sym at.invariant.4 ∙ none.0) in
     let all = sym (append-nil at.yielded) ∙ rw empty at at.invariant.0 ∙ c.into_iter-raw-iterator.ensures.into_iter_gives.0 in
     subst (λ rs. at.symbols ≡ with_texts c.args.symbols.now (raw_own_names 1 rs)) all at.invariant.5

@@ -1,10 +1,10 @@
 use Rattle.std.proofs.Common.{◌≡◌, Err, true, false, rules, ap, length, arith}
+use Rattle.gr_base.proofs.Zips.{AllZip-none}
 use Rattle.gr_grammar.specs.Grammars.{begins, run_left, run_right, take_nothing}
 use Rattle.gr_reader.specs.Classes.{flat}
 use Rattle.gr_reader.proofs.Steps.{left_stops}
 use Rattle.gr_feats.specs.Grammars.{row_text}
 use Rattle.sm_input.specs.Reading.{IsRawLiteral}
-use Rattle.sm_input.proofs.RawLemmas.{zip_none}
 use Rattle.gr_feats.proofs.ReadingLemmas.{begins_term}
 use Rattle.gr_feats.proofs.TableLemmas.{puts_left, puts_nothing}
 use Rattle.sm_input.proofs.literals.literals.Goals as goal
@@ -23,7 +23,7 @@ returns-in_ok-inner-clause-reads c =
 pub returns-else-sees_term-clause-reads : goal.returns-else-sees_term-clause-reads
 returns-else-sees_term-clause-reads c =
     let b : begins flat row_text c.args.reader.now ≡ false = begins_term c.args.reader.now c.sees_term.ensures c.if-sees_term.false in
-    (run_right b take_nothing, λ later grows apart. zip_none (IsRawLiteral later) _ c.new.ensures.items)
+    (run_right b take_nothing, λ later grows apart. AllZip-none (IsRawLiteral later) _ c.new.ensures.items)
 
 pub returns-else-sees_term-clause-spare : goal.returns-else-sees_term-clause-spare
 returns-else-sees_term-clause-spare c = let n = ap length c.new.ensures.items in omega (arith, n)

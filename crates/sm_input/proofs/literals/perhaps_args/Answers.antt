@@ -1,10 +1,10 @@
 use Rattle.std.proofs.Common.{◌≡◌, Err, true, false, rules}
+use Rattle.gr_base.proofs.Zips.{AllZip-none}
 use Rattle.gr_grammar.specs.Grammars.{begins, run_left, run_right, take_nothing}
 use Rattle.gr_reader.specs.Classes.{flat}
 use Rattle.gr_reader.proofs.Steps.{left_stops}
 use Rattle.gr_feats.specs.Grammars.{args_text}
 use Rattle.sm_input.specs.Reading.{IsRawTerm}
-use Rattle.sm_input.proofs.RawLemmas.{zip_none}
 use Rattle.gr_feats.proofs.ReadingLemmas.{begins_term}
 use Rattle.gr_feats.proofs.TableLemmas.{puts_left, puts_nothing}
 use Rattle.sm_input.proofs.literals.perhaps_args.Goals as goal
@@ -23,7 +23,7 @@ returns-in_ok-inner-clause-reads c =
 pub returns-else-sees_term-clause-reads : goal.returns-else-sees_term-clause-reads
 returns-else-sees_term-clause-reads c =
     let b : begins flat args_text c.args.reader.now ≡ false = begins_term c.args.reader.now c.sees_term.ensures c.if-sees_term.false in
-    (run_right b take_nothing, λ later grows. zip_none (IsRawTerm later) _ c.new.ensures)
+    (run_right b take_nothing, λ later grows. AllZip-none (IsRawTerm later) _ c.new.ensures)
 
 pub returns-in_ok-inner-clause-table : goal.returns-in_ok-inner-clause-table
 returns-in_ok-inner-clause-table c = puts_left c.in_ok-inner.ensures.table

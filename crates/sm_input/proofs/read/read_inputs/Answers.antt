@@ -1,6 +1,6 @@
 use Rattle.std.proofs.Common.{length, ap, sym, subst, arith}
 use Rattle.gr_tokens.specs.Answers.{AreTokens}
-use Rattle.sm_input.proofs.FileLemmas.{tokens_few}
+use Rattle.gr_tokens.proofs.CutLengths.{tokens_few}
 use Rattle.sm_input.proofs.Finish.{read_there}
 use Rattle.sm_input.proofs.read.read_inputs.Goals as goal
 

@@ -1,8 +1,8 @@
 use Rattle.std.proofs.Common.{◌≡◌, subst, take, arith}
 use Rattle.std.proofs.lemmas.List.{take_all}
+use Rattle.gr_base.proofs.ListLemmas.{take-one_more}
 use Rattle.gr_terms.specs.Views.{network_of}
 use Rattle.gr_feats.proofs.CanonicalLemmas.{IsCollected}
-use Rattle.gr_feats.proofs.LoadLemmas.{first_items}
 use Rattle.td_model.proofs.ReadingLemmas.{bag_all, bag_skip, bag_step}
 use Rattle.td_model.proofs.bags.bag_of.Goals as goal
 use Rattle.td_model.proofs.bags.bag_of.Goals.{in-Some+in_ok-_added, in_default}
@@ -12,7 +12,7 @@ attributes-preserved c =
     let N = network_of c.args.store.now.accepted in
     let so_far = take c.attributes.place c.args.attributes.now in
     let attr = c.get-attr.result.now in
-    rw (first_items c.args.attributes.now c.attributes.place attr c.get-attr.ensures)
+    rw (take-one_more c.args.attributes.now c.attributes.place attr c.get-attr.ensures)
     (elim c.match-entry.branch [
       | in-Some+in_ok-_added w ↦
           rw w.bag-is

@@ -1,9 +1,9 @@
 use Rattle.std.proofs.Common.{◌+◌}
 use Rattle.std.specs.Prelude.{None}
+use Rattle.gr_base.proofs.Results.{IfOk-weaker}
 use Rattle.td_desc.specs.Descriptions.{description_of}
 use Rattle.td_forest.specs.Steps.{forest_of}
 use Rattle.td_solver.specs.Candidates.{IsPushed, IsEnough, IsInsertBelow, IsUnderBelow}
-use Rattle.td_solver.proofs.Choosing.{ok_map}
 use Rattle.td_solver.proofs.Listed.{roots_listed, roots_left_out}
 use Rattle.td_solver.proofs.candidates.add_roots.Goals as goal
 
@@ -18,5 +18,5 @@ returns c =
     let w = c.width.result in
     let old = c.args.all.now.items in
     let new = c.add_among.new.all.items in
-    ok_map (λ x. IsPushed (IsInsertBelow None w (w + 1)) old new) (λ x. IsEnough d m F (IsUnderBelow F 0) old new) c.add_among.result
+    IfOk-weaker (λ x. IsPushed (IsInsertBelow None w (w + 1)) old new) (λ x. IsEnough d m F (IsUnderBelow F 0) old new) c.add_among.result
     (λ x p. roots_listed d m F w old new c.width.ensures.is p) c.add_among.ensures

@@ -1,9 +1,9 @@
 use Rattle.std.proofs.Common.{ℕ, ◌+◌, subst}
 use Rattle.std.specs.Prelude.{Some}
+use Rattle.gr_base.proofs.Results.{IfOk-weaker}
 use Rattle.td_desc.specs.Descriptions.{description_of}
 use Rattle.td_forest.specs.Steps.{forest_of, kids_of, width}
 use Rattle.td_solver.specs.Candidates.{IsPushed, IsEnough, IsPlainBelow, IsInsertBelow}
-use Rattle.td_solver.proofs.Choosing.{ok_map}
 use Rattle.td_solver.proofs.Listed.{enough_pushed, plain_enough}
 use Rattle.td_solver.proofs.candidates.add_under.Goals as goal
 
@@ -16,7 +16,7 @@ returns-then-are_told c =
     let w = c.width-width.result in
     let old = c.args.all.now.items in
     let new = c.add_plain.new.all.items in
-    ok_map (λ x. IsPushed (IsPlainBelow (Some u) (w + 1)) old new) (λ x. IsEnough d m F (IsInsertBelow (Some u) (width (kids_of u F)) (width (kids_of u F) + 1)) old new) c.add_plain.result
+    IfOk-weaker (λ x. IsPushed (IsPlainBelow (Some u) (w + 1)) old new) (λ x. IsEnough d m F (IsInsertBelow (Some u) (width (kids_of u F)) (width (kids_of u F) + 1)) old new) c.add_plain.result
     (λ x p. subst (λ (k : ℕ). IsEnough d m F (IsInsertBelow (Some u) k (k + 1)) old new) c.width-width.ensures.is
     (plain_enough d m F u w old new c.requires.model c.requires.at c.width-width.ensures.is c.if-are_told.ensures p)) c.add_plain.ensures
 
@@ -29,6 +29,6 @@ returns-else-are_told c =
     let w = c.width-width.result in
     let old = c.args.all.now.items in
     let new = c.add_among.new.all.items in
-    ok_map (λ x. IsPushed (IsInsertBelow (Some u) w (w + 1)) old new) (λ x. IsEnough d m F (IsInsertBelow (Some u) (width (kids_of u F)) (width (kids_of u F) + 1)) old new) c.add_among.result
+    IfOk-weaker (λ x. IsPushed (IsInsertBelow (Some u) w (w + 1)) old new) (λ x. IsEnough d m F (IsInsertBelow (Some u) (width (kids_of u F)) (width (kids_of u F) + 1)) old new) c.add_among.result
     (λ x p. subst (λ (k : ℕ). IsEnough d m F (IsInsertBelow (Some u) k (k + 1)) old new) c.width-width.ensures.is
     (enough_pushed d m F (IsInsertBelow (Some u) w (w + 1)) old new p)) c.add_among.ensures

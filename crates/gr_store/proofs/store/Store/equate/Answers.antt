@@ -1,4 +1,5 @@
 use Rattle.std.proofs.Common.{take, refl, sym, append-nil, arith}
+use Rattle.gr_base.proofs.Booleans.{iff_true, iff_false}
 use Rattle.gr_terms.specs.declared.Assertion.TheVariants.{Equate}
 use Rattle.gr_store.specs.State.{assertions_of}
 use Rattle.gr_store.specs.Roots.{root_by, slot_root}
@@ -6,7 +7,7 @@ use Rattle.gr_store.proofs.Trails.{root_by-name, Extends-refl}
 use Rattle.gr_store.proofs.IndexLemmas.{IsIndex-skip}
 use Rattle.gr_store.proofs.Solutions.{agrees_solved, Solves-equate}
 use Rattle.gr_store.proofs.History.{solves_now, index_now}
-use Rattle.gr_store.proofs.States.{IsState-accept, accepted_more, equate_clash, iff_true, iff_false}
+use Rattle.gr_store.proofs.States.{IsState-accept, accepted_more, equate_clash}
 use Rattle.gr_store.proofs.Growth.{Grows-refl, Grows-same, Grows-accepting}
 use Rattle.gr_store.specs.Contents.{accepting}
 use Rattle.gr_store.proofs.store.Store.equate.Goals as goal

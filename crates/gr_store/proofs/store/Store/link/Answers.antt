@@ -1,8 +1,9 @@
 use Rattle.std.proofs.Common.{take, refl, sym, append-nil, arith}
+use Rattle.gr_base.proofs.Booleans.{iff_true, iff_false}
 use Rattle.gr_terms.specs.declared.Assertion.TheVariants.{Link}
 use Rattle.gr_store.proofs.Solutions.{agrees_solved}
 use Rattle.gr_store.proofs.History.{solves_now}
-use Rattle.gr_store.proofs.States.{IsState-accept, accepted_more, state_indexed, values_below, iff_true, iff_false}
+use Rattle.gr_store.proofs.States.{IsState-accept, accepted_more, state_indexed, values_below}
 use Rattle.gr_store.proofs.Growth.{Grows-refl, Grows-same, Grows-accepting}
 use Rattle.gr_store.specs.Contents.{accepting}
 use Rattle.gr_store.proofs.store.Store.link.Goals as goal

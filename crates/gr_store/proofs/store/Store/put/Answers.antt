@@ -1,9 +1,10 @@
 use Rattle.std.proofs.Common.{take, refl, sym, arith}
 use Rattle.std.proofs.lemmas.List.{length-set, take_more_set}
+use Rattle.gr_base.proofs.Booleans.{iff_true, iff_false}
 use Rattle.gr_terms.specs.declared.Assertion.TheVariants.{Entry}
 use Rattle.gr_store.proofs.Solutions.{agrees_solved}
 use Rattle.gr_store.proofs.History.{solves_now}
-use Rattle.gr_store.proofs.States.{IsState-accept, accepted_more, state_indexed, values_below, iff_true, iff_false}
+use Rattle.gr_store.proofs.States.{IsState-accept, accepted_more, state_indexed, values_below}
 use Rattle.gr_store.proofs.Growth.{Grows-refl, Grows-same, Grows-accepting}
 use Rattle.gr_store.specs.Contents.{accepting}
 use Rattle.gr_store.proofs.store.Store.put.Goals as goal

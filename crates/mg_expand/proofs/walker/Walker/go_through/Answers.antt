@@ -1,17 +1,18 @@
 use Rattle.std.proofs.Common.{◌≡◌, ◌-◌, ◌<◌, ◌≤◌, Some, ◌∷◌, [], suc, ap, sym, ◌∙◌, arith, map, length}
 use Rattle.std.proofs.lemmas.Option.{slice_get-get_or}
+use Rattle.std.proofs.lemmas.List.{nil_from_length}
 use Rattle.mg_expand.specs.declared.errand.Errand.{Errand}
 use Rattle.mg_expand.specs.declared.errand.Work.TheVariants.{Statements}
 use Rattle.mg_expand.specs.declared.errand.Next.TheVariants.{On, Done}
 use Rattle.mg_expand.specs.Walks.{task_of, a_choice, called, bound_to}
 use Rattle.mg_expand.specs.Errands.{work_tasks}
-use Rattle.mg_expand.proofs.WalkerLemmas.{group_task, call_task, bind_task, no_elements, stepped-same, stepped-end, stepped-back, stepped-group, called-there, place-behind}
+use Rattle.mg_expand.proofs.WalkerLemmas.{group_task, call_task, bind_task, stepped-same, stepped-end, stepped-back, stepped-group, called-there, place-behind}
 use Rattle.mg_expand.proofs.walker.Walker.go_through.Goals as goal
 
 pub returns-then-errand-eq0 : goal.returns-then-errand-eq0
 returns-then-errand-eq0 c =
     stepped-same c.args.resolved.now c.args.self.now c.args.self.now c.args.errand.here [] (work_tasks c.args.errand.work) c.args.errand.behind Done
-    (ap work_tasks c.requires.work ∙ ap (map task_of) (no_elements c.args.list.now c.in_default.ensures.cases))
+    (ap work_tasks c.requires.work ∙ ap (map task_of) (nil_from_length c.args.list.now c.in_default.ensures.cases))
     (stepped-end c.args.resolved.now c.args.self.now c.args.errand.here c.args.errand.behind c.if-errand-eq0.true)
 
 pub returns-in_default : goal.returns-in_default
@@ -20,7 +21,7 @@ returns-in_default c =
     let within : c.args.errand.behind - 1 < length c.args.self.now.kept.items = omega (arith, behind, c.if-errand-eq0.false) in
     let number : c.args.errand.behind ≡ suc (c.args.errand.behind - 1) = omega (arith, c.if-errand-eq0.false) in
     stepped-same c.args.resolved.now c.args.self.now c.args.self.now c.args.errand.here [] (work_tasks c.args.errand.work) c.args.errand.behind (On c.index.result.now)
-    (ap work_tasks c.requires.work ∙ ap (map task_of) (no_elements c.args.list.now c.in_default.ensures.cases))
+    (ap work_tasks c.requires.work ∙ ap (map task_of) (nil_from_length c.args.list.now c.in_default.ensures.cases))
     (stepped-back c.args.resolved.now c.args.self.now c.args.errand.here c.args.errand.behind (c.args.errand.behind - 1) c.index.result.now number
     (slice_get-get_or c.args.self.now.kept.items (c.args.errand.behind - 1) c.index.result.now within ∙ ap (λ (z : Errand). Some z) (sym c.index.ensures)))
 

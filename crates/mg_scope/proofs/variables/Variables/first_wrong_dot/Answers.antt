@@ -1,6 +1,6 @@
-use Rattle.gr_base.proofs.ListLemmas.{IsAmong-get_or}
+use Rattle.gr_base.proofs.ListLemmas.{IsAmong-get_or, Each-whole}
 use Rattle.mg_scope.specs.Faults.{IsRightDot}
-use Rattle.mg_scope.proofs.LoopLemmas.{Each-more, Each-all, first_without}
+use Rattle.mg_scope.proofs.LoopLemmas.{Each-more, first_without}
 use Rattle.mg_scope.proofs.variables.Variables.first_wrong_dot.Goals as goal
 
 pub loop-one-preserved : goal.loop-one-preserved
@@ -14,4 +14,4 @@ returns-in-Some c = λ k vs is right.
     (_, wrong.0, first_without (IsRightDot c.args.directory.now k) c.args.uses.now c.loop-one.one-index _ c.loop-one-test.true (c.loop-one.invariant k vs is right) wrong.1)
 
 pub returns : goal.returns
-returns c = λ k vs is right. Each-all (IsRightDot c.args.directory.now k) c.args.uses.now c.loop-one.one-index c.loop-one-test.false (c.loop-one.invariant k vs is right)
+returns c = λ k vs is right. Each-whole (IsRightDot c.args.directory.now k) c.args.uses.now c.loop-one.one-index c.loop-one-test.false (c.loop-one.invariant k vs is right)

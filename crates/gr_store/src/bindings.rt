@@ -44,7 +44,7 @@ impl Model for Bindings {
 fn free_terms(alloc: Global, vars: u32) -> Result<Vec<Term>, AllocError>
     ensures { IfOk result (λ to. to.items ≡ all_free vars) }
 {
-    let mut to = Vec::new(alloc);
+    let mut to = Vec::with_capacity(alloc, vars as usize)?;
     for i in 0..vars {
         to.push(Term::Var(i))?;
     }

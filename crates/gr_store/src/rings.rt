@@ -36,7 +36,7 @@ impl Model for Rings {
 fn numbers(alloc: Global, count: u32) -> Result<Vec<u32>, AllocError>
     ensures { IfOk result (λ list. list.items ≡ range_with_len 0 count) }
 {
-    let mut list = Vec::new(alloc);
+    let mut list = Vec::with_capacity(alloc, count as usize)?;
     for i in 0..count {
         list.push(i)?;
     }

@@ -12,12 +12,12 @@ use gr_terms::{Assertion, SlotId};
 use std::alloc::Global;
 use std::marker::Model;
 
-/// The room of a new store.
+/// The room of a new store: enough for a class of a few nodes, since each class begins with one.
 const FIRST_ROOM: Room = Room {
-    vars: 64,
-    slots: 256,
-    entries: 64,
-    assertions: 256,
+    vars: 16,
+    slots: 64,
+    entries: 16,
+    assertions: 32,
 };
 
 /// Assertions that agree. Contracts see the numbers of variables and slots made and the accepted

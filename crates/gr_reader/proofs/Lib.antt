@@ -6,3 +6,4 @@ pub mod Levels
 pub mod Files
 pub mod LexemeLemmas
 pub mod ComplaintLemmas
+pub mod WholeFiles

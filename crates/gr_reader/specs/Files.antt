@@ -1,5 +1,5 @@
 -- What a reader of a whole text of tokens answers: the same for each grammar, each complaints and each value.
-use Rattle.std.specs.Prelude.{◌≡◌, ℕ, ◌-◌, ◌≤◌, List, [], length, drop, ⊤, None, Some, Result, Ok, Err}
+use Rattle.std.specs.Prelude.{◌≡◌, ℕ, ◌-◌, ◌≤◌, List, [], ◌∷◌, length, drop, ⊤, Option, None, Some, Result, Ok, Err}
 use Rattle.gr_grammar.specs.Grammars.{Grammar, System, Matches, IsText}
 use Rattle.gr_grammar.specs.Depths.{IsShallow, IsShallowFault}
 use Rattle.gr_text.specs.declared.Place.{Place}
@@ -8,6 +8,8 @@ use Rattle.gr_tokens.specs.declared.ReadRefusal.{ReadRefusal}
 use Rattle.gr_tokens.specs.declared.ReadRefusal.TheVariants.{Syntax, Memory}
 use Rattle.gr_reader.specs.declared.complaints.Complaint.{Complaint}
 use Rattle.gr_reader.specs.Lexemes.{Lexeme, lexemes}
+use Rattle.gr_reader.specs.declared.reader.Stop.{Stop}
+use Rattle.gr_reader.specs.declared.reader.Stop.TheVariants as stop
 use Rattle.gr_reader.specs.Classes.{Class}
 use Rattle.gr_reader.specs.Brackets.{turn}
 use Rattle.gr_reader.specs.Places.{place_of_token}
@@ -37,3 +39,15 @@ IsFileAnswer S g bad right bytes tokens (Ok v) = (f : IsFile S g bytes tokens) �
 IsFileAnswer S g bad right bytes tokens (Err (Syntax place)) = BreaksOff S g bytes tokens place
 IsFileAnswer S g bad right bytes tokens (Err Memory) = ⊤
 IsFileAnswer S g bad right bytes tokens (Err r) = (f : IsFile S g bytes tokens) × IsComplaint (bad (lexemes bytes tokens) [] f.tree) bytes tokens r
+
+-- the place of the token from which on so many are left, or that of the end of the bytes
+abbrev pub place_where_left : List ℕ → List Token → ℕ → Place
+place_where_left bytes tokens left = place_of_token bytes tokens (length tokens - left)
+
+-- The answer for a whole file of which a reader left these lexemes behind a part that it read, with this first complaint: the part where it is all of the file and nothing is complained of, else the refusal for the stop, for what is left or for the complaint.
+abbrev pub IsEnd : {A : Type 0} → List ℕ → List Token → List Lexeme → Option Complaint → Result A Stop → Result A ReadRefusal → Type 0
+IsEnd bytes tokens rest complaint (Err stop.Memory) answer = answer ≡ Err Memory
+IsEnd bytes tokens rest complaint (Err stop.Syntax) answer = answer ≡ Err (Syntax (place_where_left bytes tokens (length rest)))
+IsEnd bytes tokens (t ∷ rest) complaint (Ok v) answer = answer ≡ Err (Syntax (place_where_left bytes tokens (length (t ∷ rest))))
+IsEnd bytes tokens [] (Some c) (Ok v) answer = answer ≡ Err (refusal_at c.fault (place_where_left bytes tokens c.left))
+IsEnd bytes tokens [] None (Ok v) answer = answer ≡ Ok v

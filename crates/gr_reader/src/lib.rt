@@ -38,3 +38,4 @@ pub mod complaints;
 pub mod laws;
 pub mod places;
 pub mod reader;
+pub mod whole;

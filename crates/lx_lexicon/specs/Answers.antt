@@ -1,13 +1,10 @@
 -- Which answers are right for a lexicon.
-use Rattle.std.specs.Prelude.{◌≡◌, ℕ, ◌-◌, List, [], length, ◌⊎◌, Option, Some, None, Result, Ok, Err}
+use Rattle.std.specs.Prelude.{◌≡◌, ℕ, List, [], ◌⊎◌, Result, Ok, Err}
 use Rattle.gr_tokens.specs.Answers.{AreTokens, IsRefused}
 use Rattle.gr_tokens.specs.declared.Token.{Token}
 use Rattle.gr_tokens.specs.declared.ReadRefusal.{ReadRefusal}
 use Rattle.gr_tokens.specs.declared.ReadRefusal.TheVariants.{Memory}
 use Rattle.gr_reader.specs.Classes.{flat}
-use Rattle.gr_reader.specs.Complaints.{refusal_at}
-use Rattle.gr_reader.specs.Places.{place_of_token}
-use Rattle.gr_reader.specs.declared.complaints.Complaint.{Complaint}
 use Rattle.gr_reader.specs.Files.{IsFileAnswer}
 use Rattle.gr_reader.specs.Lexemes.{lexemes}
 use Rattle.gr_feats.specs.Tables.{PutsNames}
@@ -41,8 +38,3 @@ pub record HasTable (bytes : List ℕ) (old new : List (List ℕ)) : Type 0 wher
 abbrev pub IsLexiconAnswer : List ℕ → List (List ℕ) → List (List ℕ) → Result (List Entry) ReadRefusal → Type 0
 IsLexiconAnswer bytes old new (Ok es) = IsLexiconReading bytes new (Ok es) × HasTable bytes old new
 IsLexiconAnswer bytes old new (Err refusal) = IsLexiconReading bytes new (Err refusal)
-
--- the entries, or the refusal for the first complaint
-abbrev pub judged : List ℕ → List Token → Option Complaint → List Entry → Result (List Entry) ReadRefusal
-judged bytes tokens None es = Ok es
-judged bytes tokens (Some c) es = Err (refusal_at c.fault (place_of_token bytes tokens (length tokens - c.left)))

@@ -8,7 +8,7 @@ ghost use Rattle.gr_feats.specs.Tables.{PutsNames};
 ghost use Rattle.gr_reader.specs.Lexemes.{lexemes};
 ghost use Rattle.gr_symbols.specs.Numbers.{Grows};
 ghost use Rattle.gr_tokens.specs.Answers.{AreTokens};
-ghost use Rattle.lx_lexicon.specs.Answers.{IsTokensAnswer, IsLexiconAnswer, judged};
+ghost use Rattle.lx_lexicon.specs.Answers.{IsTokensAnswer, IsLexiconAnswer};
 ghost use Rattle.lx_lexicon.specs.Complaints.{entry_bad, lexicon_bad};
 ghost use Rattle.lx_lexicon.specs.Entries.{IsEntry, AreEntries};
 ghost use Rattle.lx_lexicon.specs.Grammars.{entry_text, entry_of, lexicon_text, lexicon_of};
@@ -20,8 +20,8 @@ use crate::parts::entry;
 use gr_base::Items;
 use gr_reader::class::Class;
 use gr_reader::complaints::Complaints;
-use gr_reader::places::breaks_off;
 use gr_reader::reader::{Reader, Stop};
+use gr_reader::whole::whole_file;
 use gr_symbols::Symbols;
 use gr_tokens::{ReadRefusal, Token, tokens};
 use std::alloc::Global;
@@ -63,22 +63,6 @@ fn entries(
     Ok(lexicon)
 }
 
-/// The lexicon, or the refusal for its first complaint.
-fn without_complaint(
-    bytes: &[u8],
-    tokens: &[Token],
-    lexicon: Lexicon,
-    complaints: &Complaints,
-) -> Result<Lexicon, ReadRefusal>
-    requires { IsShort bytes.now }
-    ensures { result ≡ judged bytes.now tokens.now complaints.now lexicon }
-{
-    match complaints.first() {
-        None => Ok(lexicon),
-        Some(complaint) => Err(complaint.refusal(bytes, tokens)),
-    }
-}
-
 /// The lexicon of the tokens of some bytes.
 fn read_tokens(
     alloc: Global,
@@ -95,17 +79,8 @@ fn read_tokens(
 {
     let mut reader = Reader::between(bytes, tokens, 0, tokens.len());
     let mut complaints = Complaints::new();
-    match entries(alloc, &mut reader, symbols, &mut complaints) {
-        Ok(lexicon) => {
-            let left = reader.left();
-            if left > 0 {
-                return Err(breaks_off(bytes, tokens, tokens.len() - left));
-            }
-            without_complaint(bytes, tokens, lexicon, &complaints)
-        }
-        Err(Stop::Syntax) => Err(breaks_off(bytes, tokens, tokens.len() - reader.left())),
-        Err(Stop::Memory) => Err(ReadRefusal::Memory),
-    }
+    let read = entries(alloc, &mut reader, symbols, &mut complaints);
+    whole_file(bytes, tokens, &reader, read, &complaints)
 }
 
 /// The lexicon that the bytes spell, at most 1,048,576 of them: its entries, in the order of the text.

@@ -1,13 +1,12 @@
 -- Which answers are right for a file of inputs.
-use Rattle.std.specs.Prelude.{◌≡◌, ℕ, ◌-◌, List, length, ◌⊎◌, Option, Some, None, Result, Ok, Err, Vec}
+use Rattle.std.specs.Prelude.{◌≡◌, ℕ, List, ◌⊎◌, Option, Some, None, Result, Ok, Err, Vec}
 use Rattle.std.specs.declared.alloc.Global.{Global}
 use Rattle.gr_tokens.specs.Answers.{AreTokens, IsRefused}
 use Rattle.gr_tokens.specs.declared.Token.{Token}
 use Rattle.gr_tokens.specs.declared.ReadRefusal.{ReadRefusal}
 use Rattle.gr_tokens.specs.declared.ReadRefusal.TheVariants.{Memory}
 use Rattle.gr_reader.specs.Classes.{flat}
-use Rattle.gr_reader.specs.Complaints.{noted, refusal_at}
-use Rattle.gr_reader.specs.Places.{place_of_token}
+use Rattle.gr_reader.specs.Complaints.{noted}
 use Rattle.gr_reader.specs.declared.complaints.Complaint.{Complaint}
 use Rattle.gr_reader.specs.declared.complaints.Fault.TheVariants.{Variable}
 use Rattle.gr_reader.specs.Files.{IsFileAnswer}
@@ -54,11 +53,6 @@ pub record HasTable (bytes : List ℕ) (old new : List (List ℕ)) : Type 0 wher
 abbrev pub IsInputsAnswer : List ℕ → List (List ℕ) → List (List ℕ) → Result Inputs ReadRefusal → Type 0
 IsInputsAnswer bytes old new (Ok is) = IsInputsReading bytes new (Ok is) × HasTable bytes old new
 IsInputsAnswer bytes old new (Err refusal) = IsInputsReading bytes new (Err refusal)
-
--- the inputs, or the refusal for the first complaint
-abbrev pub judged : List ℕ → List Token → Option Complaint → Inputs → Result Inputs ReadRefusal
-judged bytes tokens None is = Ok is
-judged bytes tokens (Some c) is = Err (refusal_at c.fault (place_of_token bytes tokens (length tokens - c.left)))
 
 -- the first complaint, with one of the first variable
 abbrev pub noted_at : Option Complaint → Option ℕ → Option Complaint

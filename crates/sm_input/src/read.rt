@@ -6,7 +6,7 @@ ghost use Rattle.gr_tokens.specs.Answers.{AreTokens};
 ghost use Rattle.gr_reader.specs.Complaints.{noted};
 ghost use Rattle.gr_reader.specs.Classes.{test, variable};
 ghost use Rattle.gr_reader.specs.Lexemes.{lexeme_of, lexemes};
-ghost use Rattle.sm_input.specs.Answers.{IsInputsAnswer, IsTokensAnswer, PutsTokens, judged, noted_at};
+ghost use Rattle.sm_input.specs.Answers.{IsInputsAnswer, IsTokensAnswer, PutsTokens, noted_at};
 ghost use Rattle.sm_input.specs.Complaints.{variable_left};
 ghost use Rattle.gr_text.specs.Limits.{IsShort};
 
@@ -14,8 +14,8 @@ use crate::input::Input;
 use crate::inputs::inputs;
 use gr_reader::class::number;
 use gr_reader::complaints::{Complaint, Complaints, Fault};
-use gr_reader::places::breaks_off;
-use gr_reader::reader::{Reader, Stop};
+use gr_reader::reader::Reader;
+use gr_reader::whole::whole_file;
 use gr_symbols::Symbols;
 use gr_tokens::{ReadRefusal, Token, tokens};
 use std::alloc::Global;
@@ -51,22 +51,6 @@ fn complain_of_variables(complaints: &mut Complaints, tokens: &[Token])
     }
 }
 
-/// The inputs, or the refusal for the first complaint.
-fn without_complaint(
-    bytes: &[u8],
-    tokens: &[Token],
-    inputs: Vec<Input>,
-    complaints: &Complaints,
-) -> Result<Vec<Input>, ReadRefusal>
-    requires { IsShort bytes.now }
-    ensures { result ≡ judged bytes.now tokens.now complaints.now inputs }
-{
-    match complaints.first() {
-        None => Ok(inputs),
-        Some(complaint) => Err(complaint.refusal(bytes, tokens)),
-    }
-}
-
 /// No text of the table stands twice, which its length tells.
 fn are_apart(symbols: &Symbols)
     ensures { NoneTwice symbols.now }
@@ -90,19 +74,10 @@ fn read_tokens(
 {
     let mut reader = Reader::between(bytes, tokens, 0, tokens.len());
     let mut complaints = Complaints::new();
-    match inputs(alloc, &mut reader, symbols, &mut complaints) {
-        Ok(found) => {
-            let left = reader.left();
-            if left > 0 {
-                return Err(breaks_off(bytes, tokens, tokens.len() - left));
-            }
-            are_apart(symbols);
-            complain_of_variables(&mut complaints, tokens);
-            without_complaint(bytes, tokens, found, &complaints)
-        }
-        Err(Stop::Syntax) => Err(breaks_off(bytes, tokens, tokens.len() - reader.left())),
-        Err(Stop::Memory) => Err(ReadRefusal::Memory),
-    }
+    let read = inputs(alloc, &mut reader, symbols, &mut complaints);
+    are_apart(symbols);
+    complain_of_variables(&mut complaints, tokens);
+    whole_file(bytes, tokens, &reader, read, &complaints)
 }
 
 /// The inputs that the bytes spell, at most 1,048,576 of them, in the order of the text. Names are

@@ -1,35 +1,38 @@
 -- What was read of the tokens of a file, with its first complaint, is the right answer.
-use Rattle.std.proofs.Common.{◌≡◌, ℕ, suc, ◌-◌, ◌≤◌, List, [], ◌∷◌, ◌++◌, length, false, Option, Some, None, Result, Ok, Err, inl, inr, refl, sym, ◌∙◌, ap, subst, arith}
-use Rattle.std.specs.Prelude.{nat_lt, ◌==◌, OnOk, slice_range}
+use Rattle.std.proofs.Common.{◌≡◌, ℕ, suc, ◌≤◌, List, [], ◌∷◌, ◌++◌, false, Option, Some, None, Result, Ok, Err, inl, inr, refl, sym, ◌∙◌, ap, subst}
+use Rattle.std.specs.Prelude.{nat_lt, ◌==◌, OnOk, slice_range, length}
 use Rattle.std.proofs.lemmas.Bool.{true≢false, cases_lt, lt-ltb}
-use Rattle.gr_base.specs.Lists.{Each}
+use Rattle.gr_base.specs.Lists.{Each, NoneTwice}
 use Rattle.gr_base.proofs.ListLemmas.{append-nil_left, append-nil_right}
+use Rattle.gr_grammar.specs.Grammars.{Matches}
 use Rattle.gr_tokens.specs.declared.Token.{Token}
 use Rattle.gr_tokens.specs.declared.ReadRefusal.{ReadRefusal}
 use Rattle.gr_reader.specs.Lexemes.{Lexeme, lexemes}
 use Rattle.gr_reader.specs.Classes.{flat}
-use Rattle.gr_reader.specs.Complaints.{all_noted, refusal_at}
-use Rattle.gr_reader.specs.Files.{IsFile, IsComplaint}
-use Rattle.gr_reader.specs.Places.{place_of_token}
+use Rattle.gr_reader.specs.Complaints.{all_noted}
+use Rattle.gr_reader.specs.Files.{IsFileAnswer, IsEnd}
+use Rattle.gr_reader.specs.Levels.{level_behind}
+use Rattle.gr_reader.specs.Parts.{Reads}
+use Rattle.gr_reader.specs.declared.brackets.TheConstants.{BRACKET_LIMIT}
+use Rattle.gr_reader.specs.declared.reader.Stop.{Stop}
 use Rattle.gr_reader.specs.declared.complaints.Complaint.{Complaint}
-use Rattle.gr_reader.specs.declared.complaints.Fault.{Fault}
-use Rattle.gr_reader.specs.declared.complaints.Fault.TheVariants.{Duplicate, TooManyClasses, EmptyWord, EntryLiterals, Variable, InputLiterals, TooManyInputs}
-use Rattle.gr_reader.proofs.ComplaintLemmas.{noted_append, none_is}
-use Rattle.gr_text.specs.declared.Place.{Place}
+use Rattle.gr_reader.specs.declared.complaints.Fault.TheVariants.{Duplicate, Variable, InputLiterals, TooManyInputs}
+use Rattle.gr_reader.proofs.ComplaintLemmas.{noted_append}
 use Rattle.sm_input.specs.declared.input.Input.{Input}
 use Rattle.gr_tokens.specs.Answers.{AreTokens}
-use Rattle.sm_input.specs.Answers.{Inputs, IsTokensAnswer, PutsTokens, IsInputsAnswer, judged, noted_at}
+use Rattle.sm_input.specs.Answers.{Inputs, IsTokensAnswer, PutsTokens, IsInputsAnswer, noted_at}
 use Rattle.gr_feats.specs.Complaints.{complaint_if, complaint_at, again_left}
 use Rattle.gr_feats.proofs.ComplaintLemmas.{no_complaint_if, no_complaint_at}
 use Rattle.sm_input.specs.Complaints.{input_bad, inputs_bad, variable_left, file_bad}
 use Rattle.sm_input.specs.Firsts.{firsts}
 use Rattle.sm_input.specs.Grammars.{WrittenInput, inputs_text, inputs_of}
 use Rattle.sm_input.specs.Inputs.{AreInputs}
-use Rattle.sm_input.specs.Reading.{IsFaultless, AreFaultless, IsPlain, InputHas, PutsInputs}
+use Rattle.sm_input.specs.Reading.{Apart, IsFaultless, AreFaultless, IsPlain, InputHas, PutsInputs}
 use Rattle.gr_grammar.proofs.OneTree.{one_tree}
-use Rattle.gr_reader.proofs.Files.{later_lexemes}
+use Rattle.gr_reader.proofs.WholeFiles.{reads_map, reads_and, all_of_them, whole_answer, answer_map, answer_has}
 use Rattle.gr_reader.proofs.LexemeLemmas.{Lexeme-set}
 use Rattle.gr_reader.proofs.Systems.{flat_is_system}
+use Rattle.gr_symbols.proofs.NumberLemmas.{Grows-refl}
 use Rattle.sm_input.proofs.Plain.{none_left, plain_inputs}
 
 not_more : (n : ℕ) → nat_lt 24 n ≡ false → n ≤ 24
@@ -64,66 +67,70 @@ noted_at_is : (c : Option Complaint) (left : Option ℕ) → noted_at c left ≡
 noted_at_is c None = refl
 noted_at_is c (Some n) = refl
 
-module _ (bytes : List ℕ) (tokens : List Token) (texts : List (List ℕ)) (f : IsFile flat inputs_text bytes tokens) where
-  abbrev Answers : Result Inputs ReadRefusal → Type 0
-  Answers x = IsTokensAnswer bytes tokens texts x
+-- brackets are closed behind each input, and stand three deep at most
+inputs_are_level : level_behind BRACKET_LIMIT 0 inputs_text ≡ Some 0
+inputs_are_level = refl
 
-  abbrev bad : List Complaint
-  bad = file_bad f.tree
+-- nothing is wrong with the inputs of a text without complaints
+no_fault : {ts : List Lexeme} (m : Matches flat inputs_text ts []) → file_bad m ≡ [] → Each IsFaultless (inputs_of m)
+no_fault {ts} m none =
+    let ws = inputs_of m in
+    let v = variable_left ts in
+    let plain = plain_inputs m (none_left ts (no_complaint_at Variable v (append-nil_right (inputs_bad 0 ws) (complaint_at Variable v) none))) in
+    all_faultless 0 ws plain (append-nil_left (inputs_bad 0 ws) (complaint_at Variable v) none)
 
-  refused : (fault : Fault) (place : Place) → IsComplaint bad bytes tokens (refusal_at fault place) → Answers (Err (refusal_at fault place))
-  refused Duplicate place k = (f, k)
-  refused TooManyClasses place k = (f, k)
-  refused EmptyWord place k = (f, k)
-  refused EntryLiterals place k = (f, k)
-  refused Variable place k = (f, k)
-  refused InputLiterals place k = (f, k)
-  refused TooManyInputs place k = (f, k)
+module _ (bytes : List ℕ) (tokens : List Token) (old texts : List (List ℕ)) where
+  abbrev bad : (ts rest : List Lexeme) → Matches flat inputs_text ts rest → List Complaint
+  bad ts rest m = file_bad m
 
-  judged_by : (k : Option Complaint) (row : Inputs) → all_noted None bad ≡ k → AreFaultless texts (inputs_of f.tree) row.items → Answers (judged bytes tokens k row)
-  judged_by None row e z =
-      let none : bad ≡ [] = none_is bad e in
-      let ws = inputs_of f.tree in
+  -- inputs by a table, with complaints that were noted behind those from before
+  abbrev found : Option Complaint → Option Complaint → (ts rest : List Lexeme) → Matches flat inputs_text ts rest → Inputs → Type 0
+  found b c ts rest m is = Apart texts (λ later. (c ≡ all_noted b (inputs_bad 0 (inputs_of m))) × AreFaultless later (inputs_of m) is.items)
+
+  abbrev put : (ts rest : List Lexeme) → Type 0
+  put ts rest = Apart texts (λ later. PutsInputs old texts ts rest)
+
+  abbrev right : (ts rest : List Lexeme) → Matches flat inputs_text ts rest → Inputs → Type 0
+  right ts rest m is = AreFaultless texts (inputs_of m) is.items × PutsInputs old texts ts rest
+
+  -- all complaints: those of the inputs, and that of the first variable
+  all_of : (b c d : Option Complaint) (rest : List Lexeme) (m : Matches flat inputs_text (lexemes bytes tokens) rest) → b ≡ None → d ≡ noted_at c (variable_left (lexemes bytes tokens))
+      → c ≡ all_noted b (inputs_bad 0 (inputs_of m)) → d ≡ all_noted None (file_bad m)
+  all_of b c d rest m none note is =
       let v = variable_left (lexemes bytes tokens) in
-      let plain = plain_inputs f.tree (none_left (lexemes bytes tokens) (no_complaint_at Variable v (append-nil_right (inputs_bad 0 ws) (complaint_at Variable v) none))) in
-      (f, none, all_right texts ws row.items (all_faultless 0 ws plain (append-nil_left (inputs_bad 0 ws) (complaint_at Variable v) none)) z)
-  judged_by (Some c) row e z = refused c.fault (place_of_token bytes tokens (length tokens - c.left)) (record { first = c; is = e; refusal = refl })
+      note ∙ (noted_at_is c v ∙ (ap (λ u. all_noted u (complaint_at Variable v)) (is ∙ ap (λ z. all_noted z (inputs_bad 0 (inputs_of m))) none) ∙ sym (noted_append None (inputs_bad 0 (inputs_of m)) (complaint_at Variable v))))
 
-  pub judged_right : (c d : Option Complaint) (row : Inputs) (x : Result Inputs ReadRefusal) → c ≡ all_noted None (inputs_bad 0 (inputs_of f.tree)) → AreFaultless texts (inputs_of f.tree) row.items
-      → d ≡ noted_at c (variable_left (lexemes bytes tokens)) → x ≡ judged bytes tokens d row → Answers x
-  judged_right c d row x is z note e =
-      let v = variable_left (lexemes bytes tokens) in
-      let all : all_noted None bad ≡ d =
-      noted_append None (inputs_bad 0 (inputs_of f.tree)) (complaint_at Variable v) ∙ (ap (λ u. all_noted u (complaint_at Variable v)) (sym is) ∙ (sym (noted_at_is c v) ∙ sym note)) in
-      subst Answers (sym e) (judged_by d row all z)
+  module _ (once : NoneTwice texts) (b c d : Option Complaint) (none : b ≡ None) (note : d ≡ noted_at c (variable_left (lexemes bytes tokens))) where
+    both : (rest : List Lexeme) (read : Result Inputs Stop) (x : Result Inputs ReadRefusal)
+        → Reads flat inputs_text (found b c) (lexemes bytes tokens) rest read → OnOk read (put (lexemes bytes tokens) rest) → IsEnd bytes tokens rest d read x
+        → IsFileAnswer flat inputs_text bad right bytes tokens x
+    both rest read x r p e =
+        let all = lexemes bytes tokens in
+        whole_answer inputs_text refl inputs_are_level bytes tokens bad right rest d read x
+        (reads_map flat inputs_text (λ ts rest m is. found b c ts rest m is × put ts rest) all rest
+        (λ ts rest m is. (d ≡ all_noted None (bad ts rest m)) × right ts rest m is) read
+        (λ m is k.
+          let f = k.0 texts (Grows-refl texts) once in
+          (all_of b c d rest m none note f.0, (f.1, k.1 texts (Grows-refl texts) once)))
+        (reads_and flat inputs_text (found b c) all rest put read r p))
+        e
 
-  -- what follows where nothing is wrong follows of each answer that has inputs
-  judged_table : (k : Option Complaint) (row : Inputs) {P : Type 0} → all_noted None bad ≡ k → (Each IsFaultless (inputs_of f.tree) → P) → OnOk (judged bytes tokens k row) P
-  judged_table None row e p =
-      let none : bad ≡ [] = none_is bad e in
-      let ws = inputs_of f.tree in
-      let v = variable_left (lexemes bytes tokens) in
-      let plain = plain_inputs f.tree (none_left (lexemes bytes tokens) (no_complaint_at Variable v (append-nil_right (inputs_bad 0 ws) (complaint_at Variable v) none))) in
-      p (all_faultless 0 ws plain (append-nil_left (inputs_bad 0 ws) (complaint_at Variable v) none))
-  judged_table (Some c) row e p = tt
+    module _ (now rest : List Lexeme) (read : Result Inputs Stop) (x : Result Inputs ReadRefusal) (is : now ≡ lexemes bytes (slice_range tokens 0 (length tokens)))
+        (r : Reads flat inputs_text (found b c) now rest read) (p : OnOk read (put now rest)) (e : IsEnd bytes tokens rest d read x) where
+      ended : IsFileAnswer flat inputs_text bad right bytes tokens x
+      ended =
+          let same = all_of_them bytes tokens now is in
+          both rest read x (subst (λ z. Reads flat inputs_text (found b c) z rest read) same r) (subst (λ z. OnOk read (put z rest)) same p) e
 
-  pub table_right : (c d : Option Complaint) (row : Inputs) (x : Result Inputs ReadRefusal) (old new : List (List ℕ)) → c ≡ all_noted None (inputs_bad 0 (inputs_of f.tree))
-      → d ≡ noted_at c (variable_left (lexemes bytes tokens)) → x ≡ judged bytes tokens d row → PutsInputs old new (lexemes bytes tokens) [] → OnOk x (PutsTokens bytes tokens old new)
-  table_right c d row x old new is note e puts =
-      let v = variable_left (lexemes bytes tokens) in
-      let all : all_noted None bad ≡ d =
-      noted_append None (inputs_bad 0 (inputs_of f.tree)) (complaint_at Variable v) ∙ (ap (λ u. all_noted u (complaint_at Variable v)) (sym is) ∙ (sym (noted_at_is c v) ∙ sym note)) in
-      subst (λ z. OnOk z (PutsTokens bytes tokens old new)) (sym e)
-      (judged_table d row all (λ faultless. record {
-        tree = puts.tree;
-        table = puts.table (subst (λ m. Each IsFaultless (inputs_of m)) (one_tree flat flat_is_system Lexeme-set refl f.tree puts.tree) faultless);
-      }))
+      pub tokens_answer : IsTokensAnswer bytes tokens texts x
+      tokens_answer = answer_map flat inputs_text bytes tokens bad right (λ ts rest m is. AreInputs texts (inputs_of m) is.items) x (λ m is f k. all_right texts (inputs_of m) is.items (no_fault m f) k.0) ended
 
--- the table behind all tokens
-pub put_all : (bytes : List ℕ) (tokens : List Token) (old new : List (List ℕ)) (now rest : List Lexeme) (left : ℕ) → now ≡ lexemes bytes (slice_range tokens 0 (length tokens)) → left ≡ length rest → left ≤ 0
-    → PutsInputs old new now rest → PutsInputs old new (lexemes bytes tokens) []
-put_all bytes tokens old new now [] left is count none p = subst (λ ts. PutsInputs old new ts []) (is ∙ later_lexemes bytes tokens 0) p
-put_all bytes tokens old new now (t ∷ rest) left is count none p = absurd (omega arith)
+      pub tokens_table : OnOk x (PutsTokens bytes tokens old texts)
+      tokens_table = answer_has flat inputs_text bytes tokens bad right x
+          (λ m is f k. record {
+            tree = k.1.tree;
+            table = k.1.table (subst (λ n. Each IsFaultless (inputs_of n)) (one_tree flat flat_is_system Lexeme-set refl m k.1.tree) (no_fault m f));
+          }) ended
 
 -- the answer for the tokens is that for the bytes
 pub read_there : (bytes : List ℕ) (tokens : List Token) (old new : List (List ℕ)) (answer : Result Inputs ReadRefusal) → AreTokens bytes tokens → IsTokensAnswer bytes tokens new answer

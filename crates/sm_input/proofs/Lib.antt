@@ -8,7 +8,6 @@ pub mod Naming
 pub mod TableLemmas
 pub mod Rows
 pub mod Finish
-pub mod FileLemmas
 pub mod VariableLemmas
 pub mod Spelled
 pub mod GroundLemmas

@@ -11,6 +11,7 @@ use Rattle.mg_reader.specs.Kinds.{turn}
 use Rattle.mg_reader.specs.Grammar.{system, metagrammar_text}
 use Rattle.mg_reader.specs.Answers.{reading_of}
 use Rattle.mg_reader.specs.Tables.{IsTable}
+use Rattle.gr_tokens.proofs.CutLengths.{tokens_few}
 use Rattle.mg_reader.proofs.Numbering.{refused_table}
 use Rattle.mg_reader.proofs.Finish.{lexemes_are, accepted_right, right_ok, right_err}
 use Rattle.mg_reader.proofs.answer.read_metagrammar.Goals as goal

@@ -20,7 +20,7 @@ use Rattle.gr_terms.specs.declared.Term as code
 use Rattle.gr_terms.specs.declared.Term.TheVariants.{Const, Var}
 use Rattle.gr_terms.proofs.ViewLemmas.{IsAmong-pairs_of, IsRising-pairs_of}
 use Rattle.td_canon.specs.CanonicalTexts.{text_in, IsListedTree}
-use Rattle.td_model.proofs.SameForms.{zip_answer}
+use Rattle.td_tree.proofs.SameForms.{zip_answer}
 use Rattle.td_tree.specs.Trees.{BagPairs, AreTreeNodes, IsListedNode, node_of, preorder}
 use Rattle.td_tree.specs.TreeNetworks.{Part, own_part, top_part, bottom_part, TreeSlot, at_node, at_interface, slots_at, slotted, tree_network}
 use Rattle.td_tree.specs.TreeViews.{Pairs, decorated_of, lists_of}

@@ -1,5 +1,6 @@
 -- A tree that has a canonical form of a tree over a network is that tree.
 use Rattle.std.specs.Prelude.{◌≡◌, ℕ, zero, suc, ◌+◌, ◌<◌, List, [], ◌∷◌, ◌++◌, map, length, slice_get, ◌⊎◌, ◌↔◌, ⊤, Some, refl}
+use Rattle.std.specs.List.{AllZip}
 use Rattle.std.proofs.Common.{inl, inr, ap, ap₂, sym, ◌∙◌, subst, arith}
 use Rattle.std.proofs.lemmas.Option.{none-some, same_Some, slice_get_within}
 use Rattle.std.proofs.lemmas.List.{length-map}
@@ -12,35 +13,18 @@ use Rattle.gr_terms.specs.Canonical.{Node, node_slots, Decorated, Literal, liter
 use Rattle.gr_terms.specs.Networks.{Term, name, Assertion, AreLinked, same, HasValue}
 use Rattle.td_tree.specs.TreeNetworks.{Part, own_part, top_part, bottom_part, TreeSlot, at_node, at_interface, slots_at, tree_network, slotted}
 use Rattle.td_tree.proofs.TreeNetworkLemmas.{list_of, IsPairAt, value_pair, pair_value, same_terms, labels-numbered, count_from}
+use Rattle.td_tree.proofs.SameForms.{labels_zip}
 use Rattle.td_check.specs.ModelTrees.{Beside, HaveAttributes, AreLists, of_node, of_interface, AreInLiterals, of_literal, StandsFor, in_list, in_literal, IsTreeOf, HasEachOnce}
 use Rattle.td_check.proofs.Telling.{OneOfThree, at_first, at_second, at_third, three_at}
 
 -- ---- lists and forests side by side
 
-abbrev AreZip : {A B : Type 0} → (A → B → Type 0) → List A → List B → Type 0
-AreZip R [] [] = ⊤
-AreZip R [] (y ∷ ys) = ⊥
-AreZip R (x ∷ xs) [] = ⊥
-AreZip R (x ∷ xs) (y ∷ ys) = R x y × AreZip R xs ys
-
-zip-append : {A B : Type 0} (R : A → B → Type 0) (xs : List A) (ys : List B) (zs : List A) (ws : List B) → AreZip R xs ys → AreZip R zs ws → AreZip R (xs ++ zs) (ys ++ ws)
-zip-append R [] [] zs ws h k = k
-zip-append R [] (y ∷ ys) zs ws h k = absurd h
-zip-append R (x ∷ xs) [] zs ws h k = absurd h
-zip-append R (x ∷ xs) (y ∷ ys) zs ws h k = (h.0, zip-append R xs ys zs ws h.1 k)
-
-zip_at : {A B : Type 0} (R : A → B → Type 0) (xs : List A) (ys : List B) (k : ℕ) (x : A) (y : B) → AreZip R xs ys → slice_get xs k ≡ Some x → slice_get ys k ≡ Some y → R x y
+zip_at : {A B : Type 0} (R : A → B → Type 0) (xs : List A) (ys : List B) (k : ℕ) (x : A) (y : B) → AllZip R xs ys → slice_get xs k ≡ Some x → slice_get ys k ≡ Some y → R x y
 zip_at R [] [] k x y h e g = absurd (none-some x e)
 zip_at R [] (w ∷ ys) k x y h e g = absurd h
 zip_at R (z ∷ xs) [] k x y h e g = absurd h
 zip_at R (z ∷ xs) (w ∷ ys) zero x y h e g = subst (λ a. R a y) (same_Some z x e) (subst (λ b. R z b) (same_Some w y g) h.0)
 zip_at R (z ∷ xs) (w ∷ ys) (suc k) x y h e g = zip_at R xs ys k x y h.1 e g
-
-alike_zip : {A B : Type 0} (R : A → B → Type 0) (f : Forest A) (g : Forest B) → AreAlike R f g → AreZip R (labels f) (labels g)
-alike_zip R empty empty h = tt
-alike_zip R empty (tree b others rest) h = absurd h
-alike_zip R (tree a kids more) empty h = absurd h
-alike_zip R (tree a kids more) (tree b others rest) h = (h.0, zip-append R (labels kids) (labels others) (labels more) (labels rest) (alike_zip R kids others h.1) (alike_zip R more rest h.2))
 
 -- two forests that are alike a third one
 record Through {A B C : Type 0} (R : A → C → Type 0) (S : B → C → Type 0) (a : A) (b : B) : Type 0 where
@@ -107,7 +91,7 @@ module _ (text : ℕ → List ℕ) (N : List (Assertion ℕ ℕ)) (t : Decorated
 
   node_sided : (k : ℕ) (n : Node ℕ) (m : Node (List (ℕ × Term ℕ))) → slice_get (labels t.nodes) k ≡ Some n → slice_get (labels u.nodes) k ≡ Some m → IsBoth n (k, m)
   node_sided k n m e g =
-      zip_at IsBoth (labels t.nodes) (labels (numbered 0 u.nodes)) k n (k, m) (alike_zip IsBoth t.nodes (numbered 0 u.nodes) both_alike) e
+      zip_at IsBoth (labels t.nodes) (labels (numbered 0 u.nodes)) k n (k, m) (labels_zip IsBoth t.nodes (numbered 0 u.nodes) both_alike) e
       (ap (λ z. slice_get z k) (labels-numbered 0 u.nodes) ∙ counted_at 0 k k (labels u.nodes) m (omega arith) g)
 
   sided : (s : ℕ) (pairs : List (ℕ × Term ℕ)) → AreLists t u s pairs → Sided s pairs

@@ -1,4 +1,3 @@
-pub mod SameForms
 pub mod LeastTerms
 pub mod TreeForms
 pub mod LoadSteps

@@ -3,5 +3,4 @@ pub mod Carrying
 pub mod CanonicalTrees
 pub mod ModelTrees
 pub mod ModelEntries
-pub mod Forms
 pub mod Reading

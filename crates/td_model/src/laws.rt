@@ -23,7 +23,6 @@ ghost use Rattle.td_colour.specs.Models.{HasModelForm, merged_network};
 ghost use Rattle.td_model.specs.Loads.{IsLoaded, slot_links};
 ghost use Rattle.td_model.specs.Carrying.{Carries};
 ghost use Rattle.td_model.specs.CanonicalTrees.{IsCanonicalTree};
-ghost use Rattle.td_model.specs.Forms.{AreSameTrees};
 ghost use Rattle.td_model.specs.ModelEntries.{IsModelEntry};
 ghost use Rattle.td_model.specs.ModelTrees.{IsModelText, IsModelTree, IsNamedDescription};
 
@@ -42,14 +41,6 @@ pub fn stores_carry_models()
         → Carries (accepted ++ slot_links 0 n o) (merged_network (description_of d) (after_step m (Step.Merge at) F)) }
     ensures agrees { (accepted : List Assertion) (N : List (net.Assertion ℕ ℕ)) → Carries accepted N
         → Agrees (network_of accepted) ↔ Agrees N }
-{}
-
-/// A canonical form goes from a tree to another one that answers it place by place, over whatever
-/// networks.
-pub fn forms_are_carried()
-    ensures { (text : ℕ → List ℕ) (N M : List (net.Assertion ℕ ℕ)) (there : net.Term ℕ → net.Term ℕ)
-        → (t u : Decorated ℕ (net.Term ℕ)) (c : Decorated Pairs Label) → AreSameTrees N M there t u
-        → IsCanonicalForm text M u c → IsCanonicalForm text N t c }
 {}
 
 /// A canonical form does not depend on how the network is written: the tree with the canonical bags

@@ -16,8 +16,7 @@
 //! - `specs/CanonicalTrees` has trees whose lists are the canonical bags of slots, over any network,
 //!   and `specs/ModelTrees` the tree and the text of a model (`IsModelTree`, `IsModelText`).
 //!   `specs/ModelEntries` says of a tree and a text together that they are a model's (`IsModelEntry`).
-//! - `specs/Forms` says when a tree over one network has each canonical form that a tree over another
-//!   one has, and `specs/Reading` what single tree nodes are read as.
+//! - `specs/Reading` says what single tree nodes are read as.
 //!
 //! # What the crates above can rely on
 //!

@@ -1,3 +1,4 @@
 pub mod PreorderLemmas
 pub mod TreeNetworkLemmas
 pub mod FlatTreeLemmas
+pub mod SameForms

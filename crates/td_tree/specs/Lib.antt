@@ -3,3 +3,4 @@ pub mod Positions
 pub mod TreeViews
 pub mod TreeNetworks
 pub mod FlatTrees
+pub mod Forms

@@ -1,8 +1,10 @@
-//! Laws of trees laid out in preorder.
+//! Laws of trees laid out in preorder, and of canonical forms.
 ghost use Rattle.std.specs.Prelude.{◌≡◌, ℕ, ◌<◌, List, Option, Some, None, ◌↔◌, slice_get, length};
 ghost use Rattle.gr_base.specs.Forests.{Forest, map_forest};
-ghost use Rattle.gr_terms.specs.Canonical.{Node};
+ghost use Rattle.gr_terms.specs.Canonical.{Decorated, IsCanonicalForm, Label, Node, Pairs};
+ghost use Rattle.gr_terms.specs.Networks as net;
 ghost use Rattle.td_tree.specs.FlatTrees.{forest_in, forest_of, listed_network};
+ghost use Rattle.td_tree.specs.Forms.{AreSameTrees};
 ghost use Rattle.td_tree.specs.TreeNetworks.{tree_network};
 ghost use Rattle.td_tree.specs.TreeViews.{decorated_of, lists_of};
 ghost use Rattle.td_tree.specs.Trees.{BagPairs, AreTreeNodes, preorder};
@@ -32,4 +34,12 @@ pub fn nodes_have_their_forest()
 /// The list of a tree's nodes gives the tree's network.
 pub fn networks_are_listed()
     ensures { (t : Tree) (nodes : AreTreeNodes t.nodes) → tree_network (decorated_of nodes.forest t) ≡ listed_network t }
+{}
+
+/// A canonical form goes from a tree to another one that answers it place by place, over whatever
+/// networks.
+pub fn forms_are_carried()
+    ensures { (text : ℕ → List ℕ) (N M : List (net.Assertion ℕ ℕ)) (there : net.Term ℕ → net.Term ℕ)
+        → (t u : Decorated ℕ (net.Term ℕ)) (c : Decorated Pairs Label) → AreSameTrees N M there t u
+        → IsCanonicalForm text M u c → IsCanonicalForm text N t c }
 {}

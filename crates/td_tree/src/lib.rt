@@ -17,8 +17,11 @@
 //! - `specs/FlatTrees` has the same of the list of nodes alone: the forest that they are laid out from
 //!   (`forest_of`, and `forest_in` with the lists of the nodes) and the network (`listed_network`).
 //! - [`bags_are_listed`] tells of any tree that each of its bags has an attribute at most once.
+//! - `specs/Forms` says when a tree over one network has each canonical form that a tree over another
+//!   one has (`AreSameTrees`).
 //! - [`laws`] says what follows: the first node alone has no parent, a parent stands before its
-//!   children, the list of the nodes fixes the forest, and it gives the forest and the network.
+//!   children, the list of the nodes fixes the forest, and it gives the forest and the network; and
+//!   canonical forms go from tree to tree.
 #![tactic(auto)]
 
 ghost use Rattle.std.specs.Prelude.{◌≡◌, ◌<◌, ◌↔◌, IsTrue, length};

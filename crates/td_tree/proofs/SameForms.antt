@@ -9,7 +9,7 @@ use Rattle.gr_base.proofs.ListLemmas.{IsAmong-append, IsAmong-append_left, IsAmo
 use Rattle.gr_base.proofs.Zips.{labels-alike}
 use Rattle.gr_terms.specs.Canonical.{Decorated, Label, Literal, Node, Pairs, node_slots, tree_slots, literal_terms, map_literal, IsExact, IsMet, IsCanonicalForm, ListsNode, ListsSlot}
 use Rattle.gr_terms.specs.Networks.{Term, Assertion, AreLinked, back, next}
-use Rattle.td_model.specs.Forms.{HaveSameValues, AreSameNodes, AreSameLiterals, AreSameTrees}
+use Rattle.td_tree.specs.Forms.{HaveSameValues, AreSameNodes, AreSameLiterals, AreSameTrees}
 
 -- ---- lists whose elements answer each other
 

@@ -189,7 +189,7 @@ fn no_bag_begins(rt: HostRuntime) -> Result<(), Fail> {
     let mut symbols = Symbols::new(alloc)?;
     let mut names = Names::new(alloc);
     // A text, a token of it, and the column where no bag goes on.
-    let cases = [
+    const CASES: [(&str, usize, u32); 17] = [
         ("", 0, 1),
         ("x", 0, 1),
         ("[a=b]", 1, 2),
@@ -208,7 +208,7 @@ fn no_bag_begins(rt: HostRuntime) -> Result<(), Fail> {
         ("[a=?x.?y]", 0, 6),
         ("[a=b, a=c}", 0, 10),
     ];
-    for (text, at, column) in cases {
+    for (text, at, column) in CASES {
         match bag_at(alloc, text, at, &mut symbols, &mut names) {
             Ok(_answer) => assert!(rt; false, "taken: {text}"),
             Err(refusal) => {
@@ -267,7 +267,7 @@ fn no_literals_begin(rt: HostRuntime) -> Result<(), Fail> {
     let mut symbols = Symbols::new(alloc)?;
     let mut names = Names::new(alloc);
     // A text, and the column where no literals with a brace behind them go on.
-    let cases = [
+    const CASES: [(&str, u32); 15] = [
         ("", 1),
         ("p", 2),
         ("p()", 4),
@@ -284,7 +284,7 @@ fn no_literals_begin(rt: HostRuntime) -> Result<(), Fail> {
         (";p()}", 1),
         ("p()]", 4),
     ];
-    for (text, column) in cases {
+    for (text, column) in CASES {
         match literals_at(alloc, text, 0, &mut symbols, &mut names) {
             Ok(_answer) => assert!(rt; false, "taken: {text}"),
             Err(refusal) => {

@@ -110,21 +110,69 @@ fn inputs_have_names_and_features(rt: HostRuntime) -> Result<(), Fail> {
 
 #[test]
 fn refused_inputs(rt: HostRuntime) -> Result<(), Fail> {
-    let table = [
-        ("input a { john(?x) }", ReadRefusal::Variable(column(16))),
+    const TABLE: [(&str, ReadRefusal); 9] = [
+        (
+            "input a { john(?x) }",
+            ReadRefusal::Variable(Place {
+                line: 1,
+                column: 16,
+            }),
+        ),
         (
             "input a [x=?y] { ?z(a) }",
-            ReadRefusal::Variable(column(12)),
+            ReadRefusal::Variable(Place {
+                line: 1,
+                column: 12,
+            }),
         ),
-        ("input a [x=b,x=?y] { }", ReadRefusal::Duplicate(column(14))),
-        ("input a [x=?y,x=b] { }", ReadRefusal::Variable(column(12))),
-        ("input a [x=?y,x=b] { ", ReadRefusal::Syntax(column(22))),
-        ("input \"a\" { }", ReadRefusal::Syntax(column(7))),
-        ("input a { p(b) ] }", ReadRefusal::Syntax(column(16))),
-        ("input a { p } \u{7f}", ReadRefusal::Syntax(column(15))),
-        ("input a { p }", ReadRefusal::Syntax(column(13))),
+        (
+            "input a [x=b,x=?y] { }",
+            ReadRefusal::Duplicate(Place {
+                line: 1,
+                column: 14,
+            }),
+        ),
+        (
+            "input a [x=?y,x=b] { }",
+            ReadRefusal::Variable(Place {
+                line: 1,
+                column: 12,
+            }),
+        ),
+        (
+            "input a [x=?y,x=b] { ",
+            ReadRefusal::Syntax(Place {
+                line: 1,
+                column: 22,
+            }),
+        ),
+        (
+            "input \"a\" { }",
+            ReadRefusal::Syntax(Place { line: 1, column: 7 }),
+        ),
+        (
+            "input a { p(b) ] }",
+            ReadRefusal::Syntax(Place {
+                line: 1,
+                column: 16,
+            }),
+        ),
+        (
+            "input a { p } \u{7f}",
+            ReadRefusal::Syntax(Place {
+                line: 1,
+                column: 15,
+            }),
+        ),
+        (
+            "input a { p }",
+            ReadRefusal::Syntax(Place {
+                line: 1,
+                column: 13,
+            }),
+        ),
     ];
-    for (text, expected) in table {
+    for (text, expected) in TABLE {
         assert_eq!(rt; refusal(rt.alloc(), text), Some(expected));
     }
     Ok(())

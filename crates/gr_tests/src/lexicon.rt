@@ -107,7 +107,7 @@ fn texts_break_off(rt: HostRuntime) -> Result<(), Fail> {
     let alloc = rt.alloc();
     let mut symbols = Symbols::new(alloc)?;
     // A text, and the column where no lexicon goes on.
-    let cases = [
+    const CASES: [(&str, u32); 13] = [
         ("x", 1),
         ("entry", 6),
         ("entry a \"f\" { }", 9),
@@ -126,7 +126,7 @@ fn texts_break_off(rt: HostRuntime) -> Result<(), Fail> {
             59,
         ),
     ];
-    for (text, at) in cases {
+    for (text, at) in CASES {
         match read(alloc, text, &mut symbols) {
             Ok(_lexicon) => assert!(rt; false, "taken: {text}"),
             Err(refusal) => assert_eq!(rt; refusal, ReadRefusal::Syntax(column(at)), "{text}"),
@@ -139,42 +139,63 @@ fn texts_break_off(rt: HostRuntime) -> Result<(), Fail> {
 fn the_first_complaint_counts(rt: HostRuntime) -> Result<(), Fail> {
     let alloc = rt.alloc();
     let mut symbols = Symbols::new(alloc)?;
-    let cases = [
+    const CASES: [(&str, ReadRefusal); 9] = [
         (
             "entry a f { sem { p() p() p() p() p() } }",
-            ReadRefusal::EntryLiterals(column(1)),
+            ReadRefusal::EntryLiterals(Place { line: 1, column: 1 }),
         ),
-        ("entry \"\" propN { }", ReadRefusal::EmptyWord(column(7))),
+        (
+            "entry \"\" propN { }",
+            ReadRefusal::EmptyWord(Place { line: 1, column: 7 }),
+        ),
         (
             "entry a f { coanchor \"\" = \"\" }",
-            ReadRefusal::EmptyWord(column(27)),
+            ReadRefusal::EmptyWord(Place {
+                line: 1,
+                column: 27,
+            }),
         ),
         (
             "entry a f { coanchor p = up coanchor \"p\" = up }",
-            ReadRefusal::Duplicate(column(38)),
+            ReadRefusal::Duplicate(Place {
+                line: 1,
+                column: 38,
+            }),
         ),
         (
             "entry a f { iface [x=a] anchor [y=a, x=b, y=c, x=d] }",
-            ReadRefusal::Duplicate(column(43)),
+            ReadRefusal::Duplicate(Place {
+                line: 1,
+                column: 43,
+            }),
         ),
         (
             "entry a f { coanchor p = \"\" coanchor p = up }",
-            ReadRefusal::EmptyWord(column(26)),
+            ReadRefusal::EmptyWord(Place {
+                line: 1,
+                column: 26,
+            }),
         ),
         (
             "entry \"\" f { sem { p() p() p() p() p() } }",
-            ReadRefusal::EntryLiterals(column(1)),
+            ReadRefusal::EntryLiterals(Place { line: 1, column: 1 }),
         ),
         (
             "entry a f { anchor [x=a, x=b] } entry \"\" f { }",
-            ReadRefusal::Duplicate(column(26)),
+            ReadRefusal::Duplicate(Place {
+                line: 1,
+                column: 26,
+            }),
         ),
         (
             "entry a f { } entry \"\" f { iface [x=a, x=b] }",
-            ReadRefusal::EmptyWord(column(21)),
+            ReadRefusal::EmptyWord(Place {
+                line: 1,
+                column: 21,
+            }),
         ),
     ];
-    for (text, wanted) in cases {
+    for (text, wanted) in CASES {
         match read(alloc, text, &mut symbols) {
             Ok(_lexicon) => assert!(rt; false, "taken: {text}"),
             Err(refusal) => assert_eq!(rt; refusal, wanted, "{text}"),

@@ -4,7 +4,7 @@ use std::test::Fail;
 
 #[test]
 fn texts_keep_their_numbers(rt: HostRuntime) -> Result<(), Fail> {
-    let table = [
+    const TABLE: [(&str, u32); 10] = [
         ("cat", 0),
         ("coanchor", 4),
         ("", 9),
@@ -19,11 +19,11 @@ fn texts_keep_their_numbers(rt: HostRuntime) -> Result<(), Fail> {
     let mut symbols = Symbols::new(rt.alloc())?;
     assert_eq!(rt; symbols.len(), 10);
     assert_eq!(rt; symbols.find("noun"), None);
-    for (text, number) in table {
+    for (text, number) in TABLE {
         assert_eq!(rt; symbols.intern(text)?, Sym(number), "the number of {text}");
     }
     assert_eq!(rt; symbols.len(), 14);
-    for (text, number) in table {
+    for (text, number) in TABLE {
         assert_eq!(rt;
             symbols.find(text),
             Some(Sym(number)),

@@ -42,7 +42,7 @@ fn shown(alloc: Global, bytes: &[u8], found: &[Token]) -> Result<Vec<u8>, AllocE
 fn texts_are_cut(rt: HostRuntime) -> Result<(), Fail> {
     let alloc = rt.alloc();
     // A text, and its tokens.
-    let cases = [
+    const CASES: [(&str, &str); 19] = [
         ("", ""),
         (" \t\r\n", ""),
         ("x->y", "wx p-> wy"),
@@ -63,7 +63,7 @@ fn texts_are_cut(rt: HostRuntime) -> Result<(), Fail> {
         ("ä_9Z-ß", "wä_9Z-ß"),
         ("12", "w12"),
     ];
-    for (text, wanted) in cases {
+    for (text, wanted) in CASES {
         let bytes = text.as_bytes();
         match answer(alloc, bytes) {
             Ok(found) => {
@@ -79,7 +79,7 @@ fn texts_are_cut(rt: HostRuntime) -> Result<(), Fail> {
 #[test]
 fn faults_have_their_first_place(rt: HostRuntime) {
     // A text, and the place of its fault.
-    let cases = [
+    const CASES: [(&str, u32, u32); 17] = [
         ("?", 1, 1),
         ("x ? y", 1, 3),
         ("x-", 1, 2),
@@ -98,7 +98,7 @@ fn faults_have_their_first_place(rt: HostRuntime) {
         ("\0", 1, 1),
         ("/", 1, 1),
     ];
-    for (text, line, column) in cases {
+    for (text, line, column) in CASES {
         match answer(rt.alloc(), text.as_bytes()) {
             Ok(_found) => assert!(rt; false, "taken: {text}"),
             Err(refusal) => {
@@ -139,14 +139,14 @@ fn places_and_spans(rt: HostRuntime) -> Result<(), Fail> {
 #[test]
 fn other_bytes_are_refused_first(rt: HostRuntime) {
     // A text, and how many bytes of it are UTF-8.
-    let cases = [
-        (b"\xff".as_slice(), 0),
-        (b"x \xc3".as_slice(), 2),
-        (b"? \xe2\x82 x".as_slice(), 2),
-        (b"%\xc3\xa4\x80".as_slice(), 3),
-        (b"\"\xed\xa0\x80\"".as_slice(), 1),
+    const CASES: [(&[u8], usize); 5] = [
+        (b"\xff", 0),
+        (b"x \xc3", 2),
+        (b"? \xe2\x82 x", 2),
+        (b"%\xc3\xa4\x80", 3),
+        (b"\"\xed\xa0\x80\"", 1),
     ];
-    for (text, front) in cases {
+    for (text, front) in CASES {
         match answer(rt.alloc(), text) {
             Ok(_found) => assert!(rt; false, "taken at {front}"),
             Err(refusal) => assert_eq!(rt; refusal, ReadRefusal::NotUtf8(front)),
@@ -157,14 +157,14 @@ fn other_bytes_are_refused_first(rt: HostRuntime) {
 #[test]
 fn tokens_have_255_bytes(rt: HostRuntime) -> Result<(), Fail> {
     // What stands before and behind the letters, the most letters, and the place of the token.
-    let cases = [
+    const CASES: [(&str, &str, usize, u32); 5] = [
         ("", "", 255, 1),
         ("  ?", " x", 255, 3),
         ("a \"", "\"", 255, 3),
         ("b-", "", 253, 1),
         ("%", "", 256, 1),
     ];
-    for (before, behind, most, column) in cases {
+    for (before, behind, most, column) in CASES {
         for more in [0, 1] {
             let mut text = String::from_str(rt.alloc(), before)?;
             for _ in 0..most + more {

@@ -125,11 +125,11 @@ fn grammar(alloc: Global, symbols: &Symbols) -> Result<Grammar, Memory> {
     let mut classes = Vec::new(alloc);
     let noun = [("cat=np;mark=anchor/idx=?0", "", "i=?0")];
     classes.push(class(alloc, "noun", &noun, symbols)?)?;
-    let verbs = [
+    const VERBS: [(&str, &str, &str); 2] = [
         ("cat=s", "cat=v;mark=anchor/num=?7", ""),
         ("cat=s", "cat=v;mark=anchor cat=q;mark=coanchor;name=p", ""),
     ];
-    classes.push(class(alloc, "verb", &verbs, symbols)?)?;
+    classes.push(class(alloc, "verb", &VERBS, symbols)?)?;
     match Grammar::check(alloc, classes) {
         Ok(grammar) => Ok(grammar),
         Err(_) => Err(Memory),
@@ -253,7 +253,7 @@ fn anchored(alloc: Global, entries: &str) -> Result<String, Memory> {
 #[test]
 fn interfaces_and_features_of_the_anchor_are_joined(rt: HostRuntime) -> Result<(), Fail> {
     let alloc = rt.alloc();
-    let cases = [
+    const CASES: [(&str, &str); 4] = [
         (
             "entry john noun { iface [i=?x] anchor [num=sg] sem { john(?x) } }",
             "0 noun 1 john (cat=np;mark=anchor;/idx=?0;num=sg;) i=?0; ?9:john,?0\n",
@@ -268,7 +268,7 @@ fn interfaces_and_features_of_the_anchor_are_joined(rt: HostRuntime) -> Result<(
         ),
         ("entry john elsewhere { sem { john() } }", ""),
     ];
-    for (entries, wanted) in cases {
+    for (entries, wanted) in CASES {
         let found = anchored(alloc, entries)?;
         assert_eq!(rt; found.as_str(), wanted, "{entries}");
     }
@@ -291,14 +291,14 @@ fn co_anchors_are_the_same_set_of_names(rt: HostRuntime) -> Result<(), Fail> {
 #[test]
 fn the_first_lexical_tree_without_a_literal_is_refused(rt: HostRuntime) -> Result<(), Fail> {
     let alloc = rt.alloc();
-    let cases = [
+    const CASES: [(&str, &str); 2] = [
         ("entry mary noun { }", "no literal: mary noun 1"),
         (
             "entry a noun { iface [i=p] anchor [idx=q] } entry b verb { } entry c noun { }",
             "no literal: b verb 2",
         ),
     ];
-    for (entries, wanted) in cases {
+    for (entries, wanted) in CASES {
         let found = anchored(alloc, entries)?;
         assert_eq!(rt; found.as_str(), wanted, "{entries}");
     }

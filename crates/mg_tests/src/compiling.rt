@@ -66,7 +66,7 @@ fn listed(alloc: Global, found: &ClassTrees) -> Result<String, Memory> {
 #[test]
 fn a_class_has_its_trees(rt: HostRuntime) -> Result<(), Fail> {
     // A text, a budget, the texts of the trees, and whether the class is cut.
-    let cases = [
+    const CASES: [(&str, u32, &str, bool); 9] = [
         (SISTERS, 0, "", true),
         (SISTERS, 5, "s(a b)\ns(b a)\n", false),
         (SISTERS, 50_000, "s(a b)\ns(b a)\n", false),
@@ -77,7 +77,7 @@ fn a_class_has_its_trees(rt: HostRuntime) -> Result<(), Fail> {
         (BROAD, 1, "", true),
         (BROAD_CLASH, 1, "", false),
     ];
-    for (text, budget, wanted, cut) in cases {
+    for (text, budget, wanted, cut) in CASES {
         match compiled(rt.alloc(), text, budget) {
             Ok(found) => {
                 let texts = listed(rt.alloc(), &found)?;
@@ -104,13 +104,13 @@ fn one_unit_too_few_cuts(rt: HostRuntime) -> Result<(), Fail> {
 
 #[test]
 fn a_class_is_refused(rt: HostRuntime) -> Result<(), Fail> {
-    let cases = [
+    const CASES: [(&str, u32, CompileRefusal); 4] = [
         (BROAD_ALONE, 1, CompileRefusal::TooManyNodes(FIRST)),
         (BROAD, 2, CompileRefusal::TooManyNodes(FIRST)),
         (BROAD, 50_000, CompileRefusal::TooManyNodes(FIRST)),
         (LARGE, 1, CompileRefusal::TooLarge(FIRST)),
     ];
-    for (text, budget, wanted) in cases {
+    for (text, budget, wanted) in CASES {
         match compiled(rt.alloc(), text, budget) {
             Ok(_) => assert!(rt; false, "a class is compiled"),
             Err(refusal) => assert_eq!(rt; refusal, wanted, "{text}"),

@@ -22,7 +22,7 @@ fn canonical(alloc: Global, text: &str) -> Result<Option<String>, Memory> {
 #[test]
 fn texts_have_their_canonical_spelling(rt: HostRuntime) -> Result<(), Fail> {
     // A text, and its canonical spelling, which is its own.
-    let cases = [
+    const CASES: [(&str, &str); 11] = [
         ("", ""),
         (
             "class A { <syn>{ node [cat=s] } } value A",
@@ -62,7 +62,7 @@ fn texts_have_their_canonical_spelling(rt: HostRuntime) -> Result<(), Fail> {
             "type T !\ntype U = { a , b , \"\" }\nproperty p : T\nfeature f : U\nuse P with ( x = y , z ) dims ( syn )\nuse Q with ( ) dims ( sem )\n",
         ),
     ];
-    for (text, wanted) in cases {
+    for (text, wanted) in CASES {
         match canonical(rt.alloc(), text)? {
             Some(printed) => {
                 assert_eq!(rt; printed.as_str(), wanted, "{text}");

@@ -27,7 +27,7 @@ fn meaning(alloc: Global, text: &str) -> Result<Option<String>, Fail> {
 
 #[test]
 fn each_construct_has_its_meaning(rt: HostRuntime) -> Result<(), Fail> {
-    let table = [
+    const TABLE: [(&str, &str); 15] = [
         ("", ""),
         (
             "class A { } value A",
@@ -83,7 +83,7 @@ fn each_construct_has_its_meaning(rt: HostRuntime) -> Result<(), Fail> {
             "use(unicity rank='1 x extra='cat syn);use(color syn);",
         ),
     ];
-    for (text, wanted) in table {
+    for (text, wanted) in TABLE {
         match meaning(rt.alloc(), text)? {
             Some(found) => assert_eq!(rt; found.as_str(), wanted, "{text}"),
             None => assert_eq!(rt; "refused", wanted, "{text}"),
@@ -108,7 +108,7 @@ fn a_canonical_metagrammar_is_read(rt: HostRuntime) -> Result<(), Fail> {
 fn one_node_is_cut_anywhere(rt: HostRuntime) -> Result<(), Fail> {
     let text = "class A { <syn>{ node [cat=s] } } value A";
     // How many bytes are read, and the column of the refusal, 0 where there is none.
-    let table = [
+    const TABLE: [(usize, u32); 31] = [
         (0, 0),
         (4, 1),
         (5, 6),
@@ -141,7 +141,7 @@ fn one_node_is_cut_anywhere(rt: HostRuntime) -> Result<(), Fail> {
         (40, 41),
         (41, 0),
     ];
-    for (count, column) in table {
+    for (count, column) in TABLE {
         let mut symbols = Symbols::new(rt.alloc())?;
         let Some(front) = text.as_bytes().get(..count) else {
             assert!(rt; false, "no front of {count}");
@@ -164,71 +164,137 @@ fn at(column: u32) -> Place {
 
 #[test]
 fn refusals_have_their_places(rt: HostRuntime) -> Result<(), Fail> {
-    let table = [
+    const TABLE: [(&[u8], ReadRefusal); 20] = [
         (
-            b"class A { <syn>{ node [cat=s, cat=s] } }".as_slice(),
-            ReadRefusal::Duplicate(at(31)),
+            b"class A { <syn>{ node [cat=s, cat=s] } }",
+            ReadRefusal::Duplicate(Place {
+                line: 1,
+                column: 31,
+            }),
         ),
-        (b"c\xff".as_slice(), ReadRefusal::NotUtf8(1)),
-        (b"class A { # }".as_slice(), ReadRefusal::Syntax(at(11))),
-        (b"class node { }".as_slice(), ReadRefusal::Syntax(at(7))),
-        (b"value \"A\"".as_slice(), ReadRefusal::Syntax(at(7))),
-        (b"class A { B[]; }".as_slice(), ReadRefusal::Syntax(at(16))),
+        (b"c\xff", ReadRefusal::NotUtf8(1)),
         (
-            b"class A { <syn>{ node (mark=\"anchor\") } }".as_slice(),
-            ReadRefusal::Syntax(at(29)),
-        ),
-        (
-            b"class A { <syn>{ node (mark=head) } }".as_slice(),
-            ReadRefusal::Syntax(at(29)),
+            b"class A { # }",
+            ReadRefusal::Syntax(Place {
+                line: 1,
+                column: 11,
+            }),
         ),
         (
-            b"class A { <syn>{ node (cat=s) } }".as_slice(),
-            ReadRefusal::Syntax(at(24)),
+            b"class node { }",
+            ReadRefusal::Syntax(Place { line: 1, column: 7 }),
         ),
         (
-            b"class A { <syn>{ node (color=blue) } }".as_slice(),
-            ReadRefusal::Syntax(at(30)),
+            b"value \"A\"",
+            ReadRefusal::Syntax(Place { line: 1, column: 7 }),
         ),
         (
-            b"class A { <syn>{ node { ,,, node } } }".as_slice(),
-            ReadRefusal::Syntax(at(25)),
+            b"class A { B[]; }",
+            ReadRefusal::Syntax(Place {
+                line: 1,
+                column: 16,
+            }),
         ),
         (
-            b"class A { <syn>{ node (color=red, x=y, color=red) } }".as_slice(),
-            ReadRefusal::Duplicate(at(40)),
+            b"class A { <syn>{ node (mark=\"anchor\") } }",
+            ReadRefusal::Syntax(Place {
+                line: 1,
+                column: 29,
+            }),
         ),
         (
-            b"class A { <syn>{ node (\"x\"=y) } }".as_slice(),
-            ReadRefusal::Syntax(at(24)),
+            b"class A { <syn>{ node (mark=head) } }",
+            ReadRefusal::Syntax(Place {
+                line: 1,
+                column: 29,
+            }),
         ),
         (
-            b"class A { <syn>{ node [top=[a=b,a=c], top=[]] } }".as_slice(),
-            ReadRefusal::Duplicate(at(33)),
+            b"class A { <syn>{ node (cat=s) } }",
+            ReadRefusal::Syntax(Place {
+                line: 1,
+                column: 24,
+            }),
         ),
         (
-            b"class A { <syn>{ node [top=[a=b], top=[c=d,c=e]] } }".as_slice(),
-            ReadRefusal::Duplicate(at(35)),
+            b"class A { <syn>{ node (color=blue) } }",
+            ReadRefusal::Syntax(Place {
+                line: 1,
+                column: 30,
+            }),
         ),
         (
-            b"class A { <iface>{ [a=b, c=d, a=b] } }".as_slice(),
-            ReadRefusal::Duplicate(at(31)),
+            b"class A { <syn>{ node { ,,, node } } }",
+            ReadRefusal::Syntax(Place {
+                line: 1,
+                column: 25,
+            }),
         ),
         (
-            b"class A { <iface>{ [a=b, a=b] } } value".as_slice(),
-            ReadRefusal::Syntax(at(40)),
+            b"class A { <syn>{ node (color=red, x=y, color=red) } }",
+            ReadRefusal::Duplicate(Place {
+                line: 1,
+                column: 40,
+            }),
         ),
         (
-            b"class A { ?x = node[] }".as_slice(),
-            ReadRefusal::Syntax(at(20)),
+            b"class A { <syn>{ node (\"x\"=y) } }",
+            ReadRefusal::Syntax(Place {
+                line: 1,
+                column: 24,
+            }),
         ),
         (
-            b"class A { ?x.?y = B[] }".as_slice(),
-            ReadRefusal::Syntax(at(20)),
+            b"class A { <syn>{ node [top=[a=b,a=c], top=[]] } }",
+            ReadRefusal::Duplicate(Place {
+                line: 1,
+                column: 33,
+            }),
         ),
-        (b"type T = { }".as_slice(), ReadRefusal::Syntax(at(12))),
+        (
+            b"class A { <syn>{ node [top=[a=b], top=[c=d,c=e]] } }",
+            ReadRefusal::Duplicate(Place {
+                line: 1,
+                column: 35,
+            }),
+        ),
+        (
+            b"class A { <iface>{ [a=b, c=d, a=b] } }",
+            ReadRefusal::Duplicate(Place {
+                line: 1,
+                column: 31,
+            }),
+        ),
+        (
+            b"class A { <iface>{ [a=b, a=b] } } value",
+            ReadRefusal::Syntax(Place {
+                line: 1,
+                column: 40,
+            }),
+        ),
+        (
+            b"class A { ?x = node[] }",
+            ReadRefusal::Syntax(Place {
+                line: 1,
+                column: 20,
+            }),
+        ),
+        (
+            b"class A { ?x.?y = B[] }",
+            ReadRefusal::Syntax(Place {
+                line: 1,
+                column: 20,
+            }),
+        ),
+        (
+            b"type T = { }",
+            ReadRefusal::Syntax(Place {
+                line: 1,
+                column: 12,
+            }),
+        ),
     ];
-    for (text, wanted) in table {
+    for (text, wanted) in TABLE {
         let mut symbols = Symbols::new(rt.alloc())?;
         match read(rt.alloc(), text, &mut symbols) {
             Ok(_found) => assert!(rt; false, "taken"),

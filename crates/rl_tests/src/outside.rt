@@ -21,7 +21,7 @@ fn a_memory_shelf_gives_cut_files_and_fails_when_told(rt: HostRuntime) -> Result
     ]?;
     let mut shelf = MemoryShelf::new(files, vec![in alloc; 3]?);
     // A name, a limit, the bytes or a fault, and the count of faults after the call.
-    let calls: [(&str, u16, Result<&[u8], FetchFault>, u64); 6] = [
+    const CALLS: [(&str, u16, Result<&[u8], FetchFault>, u64); 6] = [
         ("m", 9, Ok(b"abc"), 0),
         ("m", 1, Ok(b"ab"), 0),
         ("m", 9, Err(FetchFault::Failed), 1),
@@ -29,7 +29,7 @@ fn a_memory_shelf_gives_cut_files_and_fails_when_told(rt: HostRuntime) -> Result
         ("", 0, Ok(b""), 2),
         ("m", 0, Ok(b"a"), 2),
     ];
-    for (name, limit, wanted, faults) in calls {
+    for (name, limit, wanted, faults) in CALLS {
         match shelf.fetch(alloc, 2, name, usize::from(limit)) {
             Ok(bytes) => assert_eq!(rt; Ok(bytes.as_slice()), wanted, "{name} up to {limit}"),
             Err(fault) => assert_eq!(rt; Err(fault), wanted, "{name} up to {limit}"),
@@ -45,14 +45,14 @@ fn a_memory_sink_takes_pieces_and_fails_when_told(rt: HostRuntime) -> Result<(),
     let alloc = rt.alloc();
     let mut sink = MemorySink::with_room(alloc, 5, 2, vec![in alloc; 2]?)?;
     // A piece, how much is taken of it, and what the sink then has.
-    let calls: [(&[u8], Result<usize, Failed>, &[u8]); 5] = [
+    const CALLS: [(&[u8], Result<usize, Failed>, &[u8]); 5] = [
         (b"abc", Ok(2), b"ab"),
         (b"c", Err(Failed), b"ab"),
         (b"c", Ok(1), b"abc"),
         (b"defg", Ok(2), b"abcde"),
         (b"f", Err(Failed), b"abcde"),
     ];
-    for (piece, wanted, bytes) in calls {
+    for (piece, wanted, bytes) in CALLS {
         assert!(rt; !piece.is_empty());
         assert_eq!(rt; sink.write(piece), wanted, "at {piece:?}");
         assert_eq!(rt; sink.bytes.as_slice(), bytes);

@@ -52,7 +52,7 @@ const SISTERS: &str =
 fn classes_become_their_trees(rt: HostRuntime) -> Result<(), Fail> {
     let alloc = rt.alloc();
     // A metagrammar, and the text between the first line and the last.
-    let cases = [
+    const CASES: [(&str, &str); 6] = [
         ("", ""),
         ("class A { } ", ""),
         (
@@ -74,7 +74,7 @@ fn classes_become_their_trees(rt: HostRuntime) -> Result<(), Fail> {
             "class A\ntrees 0\n",
         ),
     ];
-    for (file, lines) in cases {
+    for (file, lines) in CASES {
         let ended = run(alloc, &["compile", "m"], file.as_bytes(), (0, 0), 4_096)?;
         let wanted = format!(in alloc; "grammar 1\n{lines}end\n")?;
         assert_eq!(rt; ended.status, Status::Done, "{file}");
@@ -87,12 +87,12 @@ fn classes_become_their_trees(rt: HostRuntime) -> Result<(), Fail> {
 #[test]
 fn a_budget_cuts_lists(rt: HostRuntime) -> Result<(), Fail> {
     let alloc = rt.alloc();
-    let cases = [
+    const CASES: [(&str, Status, &str); 2] = [
         ("5", Status::Done, "tree 1 s(a b)\ntree 2 s(b a)\ntrees 2\n"),
         ("0", Status::Shortened, "cut 0\n"),
     ];
     let file = format!(in alloc; "{SISTERS} value A")?;
-    for (models, status, lines) in cases {
+    for (models, status, lines) in CASES {
         let words = ["compile", "--models", models, "m"];
         let ended = run(alloc, &words, file.as_bytes(), (0, 0), 4_096)?;
         let wanted = format!(in alloc; "grammar 1\nclass A\n{lines}end\n")?;
@@ -112,7 +112,7 @@ fn is_refused(alloc: Global, file: &[u8], line: &str) -> Result<bool, Fail> {
 #[test]
 fn the_first_refusal_is_one_line(rt: HostRuntime) -> Result<(), Fail> {
     let alloc = rt.alloc();
-    let cases = [
+    const CASES: [(&str, &str); 10] = [
         ("clas", "10 metagrammar 1 1"),
         ("class", "10 metagrammar 1 6"),
         ("value Z", "13 Z"),
@@ -134,7 +134,7 @@ fn the_first_refusal_is_one_line(rt: HostRuntime) -> Result<(), Fail> {
         ),
         ("class A { } class A { } value Z", "15 A"),
     ];
-    for (file, line) in cases {
+    for (file, line) in CASES {
         let refused = is_refused(alloc, file.as_bytes(), line)?;
         assert!(rt; refused, "{line}");
     }
@@ -203,7 +203,7 @@ fn words_and_faults_have_their_statuses(rt: HostRuntime) -> Result<(), Fail> {
     let alloc = rt.alloc();
     let file: &[u8] = b"class A { }";
     // Words, the calls at which the shelf and the sink fail, the answer, the output, and the calls.
-    let cases: [(&[&str], (u64, u64), Status, &[u8], (u64, u64)); 8] = [
+    const CASES: [(&[&str], (u64, u64), Status, &[u8], (u64, u64)); 8] = [
         (&[], (0, 0), Status::WordsRefused, b"", (0, 0)),
         (&["compile"], (0, 0), Status::WordsRefused, b"", (0, 0)),
         (
@@ -225,7 +225,7 @@ fn words_and_faults_have_their_statuses(rt: HostRuntime) -> Result<(), Fail> {
         (&["compile", "m"], (1, 0), Status::ReadFault, b"", (1, 0)),
         (&["compile", "m"], (0, 2), Status::WriteFault, b"g", (1, 2)),
     ];
-    for (words, failing, status, output, calls) in cases {
+    for (words, failing, status, output, calls) in CASES {
         let ended = run(alloc, words, file, failing, 1)?;
         assert_eq!(rt; ended.status, status, "{words:?}");
         assert_eq!(rt; ended.output.as_slice(), output, "{words:?}");

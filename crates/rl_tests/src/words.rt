@@ -21,14 +21,14 @@ fn asked(rt: HostRuntime, words: &[&str]) -> Result<Option<(String, u32)>, Fail>
 
 #[test]
 fn a_file_and_its_budget(rt: HostRuntime) -> Result<(), Fail> {
-    let rows: [(&[&str], u32); 5] = [
+    const ROWS: [(&[&str], u32); 5] = [
         (&["compile", "a.mg"], 20_000),
         (&["compile", "a.mg", "--models", "7"], 7),
         (&["compile", "--models", "0", "a.mg"], 0),
         (&["compile", "--models", "50000", "a.mg"], 50_000),
         (&["compile", "a.mg", "--models", "10"], 10),
     ];
-    for (words, models) in rows {
+    for (words, models) in ROWS {
         let Some((file, number)) = asked(rt, words)? else {
             panic!(rt; "refused");
         };
@@ -40,7 +40,7 @@ fn a_file_and_its_budget(rt: HostRuntime) -> Result<(), Fail> {
 
 #[test]
 fn other_words_ask_nothing(rt: HostRuntime) -> Result<(), Fail> {
-    let rows: [&[&str]; 16] = [
+    const ROWS: [&[&str]; 16] = [
         &[],
         &["compile"],
         &["compile", ""],
@@ -58,7 +58,7 @@ fn other_words_ask_nothing(rt: HostRuntime) -> Result<(), Fail> {
         &["compile", "a.mg", "--report"],
         &["a.mg", "compile"],
     ];
-    for words in rows {
+    for words in ROWS {
         assert!(rt; asked(rt, words)?.is_none());
     }
     Ok(())

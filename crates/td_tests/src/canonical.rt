@@ -189,7 +189,7 @@ fn trees_have_their_texts(rt: HostRuntime) -> Result<(), Fail> {
     let alloc = rt.alloc();
     let symbols = names(alloc)?;
     // The root, its leaves, the interface, the literals, and the text.
-    let cases = [
+    const CASES: [(&str, &str, &str, &str, &str); 6] = [
         ("cat=s||", "", "", "", "s"),
         ("cat=s|k=v|", "cat=b|| cat=c||", "", "", "s^[k=v](b c)"),
         ("cat=n|k=n|", "", "", "", "n^[k=n]"),
@@ -209,7 +209,7 @@ fn trees_have_their_texts(rt: HostRuntime) -> Result<(), Fail> {
             "?1{name=?2}(-/[z=é]) e:\"two words\"(?1 ?3 \"\") e:q()",
         ),
     ];
-    for (root, leaves, iface, words, text) in cases {
+    for (root, leaves, iface, words, text) in CASES {
         let tree = tree(alloc, (root, leaves), iface, words, &symbols)?;
         let written = canonical_text(alloc, &tree, &symbols)?;
         assert_eq!(rt; written.as_str(), text);
@@ -222,7 +222,7 @@ fn a_set_has_each_text_once_in_byte_order(rt: HostRuntime) -> Result<(), Fail> {
     let alloc = rt.alloc();
     let symbols = names(alloc)?;
     let mut set = TreeSet::new(alloc);
-    let cases = [
+    const CASES: [(&str, bool); 6] = [
         ("cat=b||", true),
         ("cat=a||", true),
         ("cat=?4||", true),
@@ -230,7 +230,7 @@ fn a_set_has_each_text_once_in_byte_order(rt: HostRuntime) -> Result<(), Fail> {
         ("cat=aa||", true),
         ("cat=?2||", false),
     ];
-    for (root, fresh) in cases {
+    for (root, fresh) in CASES {
         let one = tree(alloc, (root, ""), "", "", &symbols)?;
         assert_eq!(rt; set.add(one, &symbols)?, fresh, "{root}");
     }

@@ -141,14 +141,14 @@ fn flaw_of(alloc: Global, nodes: TreeNodes) -> Option<Flaw>
 fn well_formed_trees_have_no_flaw(rt: HostRuntime) -> Result<(), Fail> {
     let alloc = rt.alloc();
     let symbols = names(alloc)?;
-    let cases = [
+    const CASES: [(&str, &str); 5] = [
         ("cat=np;mark=anchor", ""),
         ("cat=np", "cat=the;mark=lex cat=n;mark=anchor"),
         ("cat=s", "cat=np;mark=subst cat=v;mark=anchor"),
         ("cat=n", "cat=adj;mark=anchor cat=n;mark=foot"),
         ("cat=s;mark=nadj", "cat=v;mark=anchor cat=?1;mark=coanchor"),
     ];
-    for (root, leaves) in cases {
+    for (root, leaves) in CASES {
         let found = flaw_of(alloc, family(alloc, root, leaves, &symbols)?);
         assert_eq!(rt; found, None, "{root} {leaves}");
     }
@@ -159,7 +159,7 @@ fn well_formed_trees_have_no_flaw(rt: HostRuntime) -> Result<(), Fail> {
 fn ill_formed_trees_have_their_first_flaw(rt: HostRuntime) -> Result<(), Fail> {
     let alloc = rt.alloc();
     let symbols = names(alloc)?;
-    let cases = [
+    const CASES: [(&str, &str, Flaw); 15] = [
         ("-", "cat=v;mark=anchor", Flaw::RootCategory),
         ("cat=?1;mark=anchor", "", Flaw::RootCategory),
         ("cat=s", "mark=subst cat=v;mark=anchor", Flaw::SubstCategory),
@@ -188,7 +188,7 @@ fn ill_formed_trees_have_their_first_flaw(rt: HostRuntime) -> Result<(), Fail> {
         ("cat=s", "cat=v;mark=anchor cat=;mark=lex", Flaw::NoWord),
         ("cat=s", "cat=v;mark=anchor cat=?1;mark=lex", Flaw::NoWord),
     ];
-    for (root, leaves, flaw) in cases {
+    for (root, leaves, flaw) in CASES {
         let found = flaw_of(alloc, family(alloc, root, leaves, &symbols)?);
         assert_eq!(rt; found, Some(flaw), "{root} {leaves}");
     }
@@ -214,12 +214,12 @@ fn the_first_class_and_then_the_first_tree_are_refused(rt: HostRuntime) -> Resul
     let symbols = names(alloc)?;
     let mut classes = Vec::new(alloc);
     classes.push(class(alloc, Sym(10), &[("cat=np;mark=anchor", "")], &symbols)?)?;
-    let trees = [
+    const TREES: [(&str, &str); 3] = [
         ("cat=v", ""),
         ("cat=s", "cat=v;mark=anchor cat=x"),
         ("cat=np;mark=anchor", ""),
     ];
-    classes.push(class(alloc, Sym(12), &trees, &symbols)?)?;
+    classes.push(class(alloc, Sym(12), &TREES, &symbols)?)?;
     classes.push(class(alloc, Sym(11), &[("-", "")], &symbols)?)?;
     let wanted = GrammarRefusal::Shape {
         code: 36,
@@ -322,7 +322,7 @@ fn kind_told(alloc: Global, pairs: &str, symbols: &Symbols) -> Result<(Kind, boo
 fn a_variable_category_makes_a_site(rt: HostRuntime) -> Result<(), Fail> {
     let alloc = rt.alloc();
     let symbols = names(alloc)?;
-    let cases = [
+    const CASES: [(&str, Kind, bool); 7] = [
         ("cat=?1", Kind::Site, true),
         ("cat=np;mark=anchor", Kind::Site, true),
         ("cat=np;mark=?1", Kind::Site, false),
@@ -331,7 +331,7 @@ fn a_variable_category_makes_a_site(rt: HostRuntime) -> Result<(), Fail> {
         ("cat=?1;mark=subst", Kind::Substitution, true),
         ("mark=subst", Kind::Substitution, true),
     ];
-    for (pairs, kind, named) in cases {
+    for (pairs, kind, named) in CASES {
         assert_eq!(rt;
             kind_told(alloc, pairs, &symbols)?,
             (kind, named),

@@ -67,7 +67,7 @@ fn a_text_cut_anywhere_breaks_off_at_its_end(rt: HostRuntime) {
 
 #[test]
 fn names_that_break_the_rule_are_refused_at_their_first_byte(rt: HostRuntime) -> Result<(), Fail> {
-    let table = [
+    const TABLE: [(&str, u32); 16] = [
         ("n{cat=", 10),
         ("n{cat;", 10),
         ("n{cat-=", 10),
@@ -85,7 +85,7 @@ fn names_that_break_the_rule_are_refused_at_their_first_byte(rt: HostRuntime) ->
         ("n{mark=\"x\n", 17),
         ("n^[cat=a]", 17),
     ];
-    for (tree, column) in table {
+    for (tree, column) in TABLE {
         tree_breaks_at(&rt, rt.alloc(), tree, column)?;
     }
     Ok(())
@@ -93,7 +93,7 @@ fn names_that_break_the_rule_are_refused_at_their_first_byte(rt: HostRuntime) ->
 
 #[test]
 fn other_texts_break_off_where_none_goes_on(rt: HostRuntime) -> Result<(), Fail> {
-    let table = [
+    const TABLE: [(&str, u32); 13] = [
         ("n iface[a=b] ", 21),
         ("n ifac[", 14),
         ("n iface(", 15),
@@ -108,7 +108,7 @@ fn other_texts_break_off_where_none_goes_on(rt: HostRuntime) -> Result<(), Fail>
         ("a-", 10),
         ("a-\n", 10),
     ];
-    for (tree, column) in table {
+    for (tree, column) in TABLE {
         tree_breaks_at(&rt, rt.alloc(), tree, column)?;
     }
     Ok(())
@@ -136,7 +136,7 @@ fn repeated(alloc: Global, text: &str, count: usize, other: &str) -> Result<Stri
 #[test]
 fn limits_are_part_of_the_grammar(rt: HostRuntime) -> Result<(), Fail> {
     let alloc = rt.alloc();
-    let table = [
+    const TABLE: [(&str, usize, &str, u32); 8] = [
         ("s(", 199, "s^[a=b]", 413),
         ("s(", 200, "s^[a=b]", 410),
         ("s(", 200, "s{a=b}", 409),
@@ -146,7 +146,7 @@ fn limits_are_part_of_the_grammar(rt: HostRuntime) -> Result<(), Fail> {
         ("a", 255, "^", 264),
         ("a", 256, "", 263),
     ];
-    for (text, count, other, column) in table {
+    for (text, count, other, column) in TABLE {
         let tree = repeated(alloc, text, count, other)?;
         tree_breaks_at(&rt, alloc, tree.as_str(), column)?;
     }

@@ -91,14 +91,14 @@ fn no_class_is_two_lines(rt: HostRuntime) -> Result<(), Fail> {
 
 #[test]
 fn what_is_read_is_written_as_it_was(rt: HostRuntime) -> Result<(), Fail> {
-    let texts = [
+    const TEXTS: [&str; 5] = [
         SAMPLE,
         "grammar 1\nend\n",
         "grammar 1\nclass a-b\ntrees 0\nclass é\ncut 0\nend\n",
         "grammar 1\nclass c\ntree 1 a\ntree 2 a(b c)\ntree 3 a(b)\ntree 4 b\ncut 4\nclass d\ntree 1 a\ntrees 1\nend\n",
         "grammar 1\nclass cat\ntree 1 -{mark=nadj,x=\"\"}/[cat=\"a b\"] iface[y=?1] ?1:p() q:iface(?1 ?2)\ntrees 1\nend\n",
     ];
-    for text in texts {
+    for text in TEXTS {
         assert_eq!(rt; reread(rt.alloc(), text.as_bytes())?.as_str(), text);
     }
     Ok(())
@@ -106,7 +106,7 @@ fn what_is_read_is_written_as_it_was(rt: HostRuntime) -> Result<(), Fail> {
 
 #[test]
 fn refusals_come_in_their_order(rt: HostRuntime) -> Result<(), Fail> {
-    let table: [(&[u8], &str); 15] = [
+    const TABLE: [(&[u8], &str); 15] = [
         (b"grammar 2\n\xff", "NotUtf8(10)"),
         (b"", "Syntax(Place { line: 1, column: 1 })"),
         (b"grammar 2\nwhatever", "Version(2)"),
@@ -147,7 +147,7 @@ fn refusals_come_in_their_order(rt: HostRuntime) -> Result<(), Fail> {
             "Syntax(Place { line: 2, column: 7 })",
         ),
     ];
-    for (text, wanted) in table {
+    for (text, wanted) in TABLE {
         assert_eq!(rt; reread(rt.alloc(), text)?.as_str(), wanted);
     }
     Ok(())
@@ -155,7 +155,7 @@ fn refusals_come_in_their_order(rt: HostRuntime) -> Result<(), Fail> {
 
 #[test]
 fn the_first_line_that_may_not_stand_there_is_refused(rt: HostRuntime) -> Result<(), Fail> {
-    let table = [
+    const TABLE: [(&str, usize); 20] = [
         ("class c\ntree 2 a\ntrees 1\nend\n", 3),
         ("class c\ntree 0 a\ntrees 1\nend\n", 3),
         ("class c\ntree 1 a\ntree 1 b\ntrees 2\nend\n", 4),
@@ -184,7 +184,7 @@ fn the_first_line_that_may_not_stand_there_is_refused(rt: HostRuntime) -> Result
         ),
     ];
     let alloc = rt.alloc();
-    for (lines, number) in table {
+    for (lines, number) in TABLE {
         let text = format!(in alloc; "grammar 1\n{lines}")?;
         let wanted = format!(in alloc; "NotCanonical({number})")?;
         assert_eq!(rt;

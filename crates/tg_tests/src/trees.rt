@@ -17,7 +17,7 @@ fn is_read(alloc: Global, text: &str) -> Result<bool, Memory>
 
 #[test]
 fn texts_of_trees_are_read(rt: HostRuntime) -> Result<(), Fail> {
-    let texts = [
+    const TEXTS: [&str; 12] = [
         "-",
         "np",
         "?1",
@@ -31,7 +31,7 @@ fn texts_of_trees_are_read(rt: HostRuntime) -> Result<(), Fail> {
         "-(-(-) -)",
         "-(-(-(-(-(-(-(-(-(-(-(-(-(-(-(-(-(-(-(-(-(-(-(-)))))))))))))))))))))))",
     ];
-    for text in texts {
+    for text in TEXTS {
         assert!(rt; text.len() <= 1_048_576);
         assert!(rt; is_read(rt.alloc(), text)?, "{text}");
     }
@@ -40,7 +40,7 @@ fn texts_of_trees_are_read(rt: HostRuntime) -> Result<(), Fail> {
 
 #[test]
 fn other_texts_are_not(rt: HostRuntime) -> Result<(), Fail> {
-    let texts = [
+    const TEXTS: [&str; 33] = [
         "",
         "np ",
         "?2",
@@ -75,7 +75,7 @@ fn other_texts_are_not(rt: HostRuntime) -> Result<(), Fail> {
         "s^[a=?2,b=?1]",
         "-(-(-(-(-(-(-(-(-(-(-(-(-(-(-(-(-(-(-(-(-(-(-(-(-))))))))))))))))))))))))",
     ];
-    for text in texts {
+    for text in TEXTS {
         assert!(rt; text.len() <= 1_048_576);
         assert!(rt; !is_read(rt.alloc(), text)?, "{text}");
     }

@@ -81,7 +81,7 @@ module _ (texts : List (List ℕ)) where
         by (inr (inr (inl e))) = inr (inr (inl (numbered_so l.name.0 SUBST (codes "subst") refl (keyword_text kind.Subst (codes "subst") refl (λ h. absurd (omega (arith, h))) (omega arith) l r e))))
         by (inr (inr (inr (inl e)))) = inr (inr (inr (inl (numbered_so l.name.0 FOOT (codes "foot") refl (keyword_text kind.Foot (codes "foot") refl (λ h. absurd (omega (arith, h))) (omega arith) l r e)))))
         by (inr (inr (inr (inr (inl e))))) = inr (inr (inr (inr (inl (numbered_so l.name.0 LEX (codes "lex") refl (keyword_text kind.Lex (codes "lex") refl (λ h. absurd (omega (arith, h))) (omega arith) l r e))))))
-        by (inr (inr (inr (inr (inr (inl e)))))) = inr (inr (inr (inr (inr (numbered_so l.name.0 NADJ (codes "nadj") refl (keyword_text kind.Nadj (codes "nadj") refl (λ h. absurd (omega (arith, h))) (omega arith) l r e))))))
+        by (inr (inr (inr (inr (inr (inl e)))))) = inr (inr (inr (inr (inr (inl (numbered_so l.name.0 NADJ (codes "nadj") refl (keyword_text kind.Nadj (codes "nadj") refl (λ h. absurd (omega (arith, h))) (omega arith) l r e)))))))
         by (inr (inr (inr (inr (inr (inr i)))))) = absurd i
 
     -- the category's attribute is a word, which isn't `color`

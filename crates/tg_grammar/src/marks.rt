@@ -1,7 +1,8 @@
 //! Categories and marks of nodes.
-ghost use Rattle.std.specs.Prelude.{◌≡◌, ◌≢◌, Some, MatchOption};
+ghost use Rattle.std.specs.Prelude.{◌≡◌, ◌≢◌, Some, MatchOption, map};
 ghost use Rattle.std.specs.Option.{option_map};
 ghost use Rattle.gr_terms.specs.BagViews.{pairs_of};
+ghost use Rattle.gr_terms.specs.Constants.{mark_numbers};
 ghost use Rattle.tg_grammar.specs.Marks.{category_name, is_marked, lists_at, mark_number, name_of, value_of, IsMarkOf};
 
 use gr_terms::{ANCHOR, Bag, CAT, COANCHOR, FOOT, LEX, MARK, NADJ, SUBST, Sym, Term};
@@ -64,6 +65,20 @@ pub fn has_mark(node: &TreeNode, wanted: Mark) -> bool
 }
 
 impl Mark {
+    /// All marks, in the order of the numbers of their names.
+    pub fn all() -> [Mark; 6]
+        ensures { map (λ mark. mark_number mark) result ≡ mark_numbers }
+    {
+        [
+            Mark::Anchor,
+            Mark::Coanchor,
+            Mark::Subst,
+            Mark::Foot,
+            Mark::Lex,
+            Mark::Nadj,
+        ]
+    }
+
     /// The name of the mark.
     pub fn name(self) -> Sym
         ensures { result.0 ≡ mark_number self }

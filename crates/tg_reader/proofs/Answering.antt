@@ -112,7 +112,7 @@ module _ (texts : List (List ℕ)) (once : NoneTwice texts) (first : Grows first
   mark_value (named a) (Const s) (inr (inr (inl e))) stands = inr (inr (inl (mark_number SUBST (codes "subst") a s refl e stands)))
   mark_value (named a) (Const s) (inr (inr (inr (inl e)))) stands = inr (inr (inr (inl (mark_number FOOT (codes "foot") a s refl e stands))))
   mark_value (named a) (Const s) (inr (inr (inr (inr (inl e))))) stands = inr (inr (inr (inr (inl (mark_number LEX (codes "lex") a s refl e stands)))))
-  mark_value (named a) (Const s) (inr (inr (inr (inr (inr e))))) stands = inr (inr (inr (inr (inr (mark_number NADJ (codes "nadj") a s refl e stands)))))
+  mark_value (named a) (Const s) (inr (inr (inr (inr (inr e))))) stands = inr (inr (inr (inr (inr (inl (mark_number NADJ (codes "nadj") a s refl e stands))))))
 
   own_obeys : (ps : Pairs) (bag : BagPairs) → Each (StandsWell (text_in is.texts)) ps → Holds (text_in is.texts) texts ps bag → Each (MayStand texts) bag
   own_obeys ps bag well holds = Each-members (MayStand texts) bag (λ q i.

@@ -115,7 +115,8 @@ module _ (old : List (List ℕ)) (table : IsTable old) (met : List ℕ) (few : s
   mark_text (Const s) (inr (inr (inl e))) = inr (inr (inl (is_first SUBST s _ (first_is old table.once table.first SUBST (codes "subst") refl) e)))
   mark_text (Const s) (inr (inr (inr (inl e)))) = inr (inr (inr (inl (is_first FOOT s _ (first_is old table.once table.first FOOT (codes "foot") refl) e))))
   mark_text (Const s) (inr (inr (inr (inr (inl e))))) = inr (inr (inr (inr (inl (is_first LEX s _ (first_is old table.once table.first LEX (codes "lex") refl) e)))))
-  mark_text (Const s) (inr (inr (inr (inr (inr e))))) = inr (inr (inr (inr (inr (is_first NADJ s _ (first_is old table.once table.first NADJ (codes "nadj") refl) e)))))
+  mark_text (Const s) (inr (inr (inr (inr (inr (inl e)))))) = inr (inr (inr (inr (inr (is_first NADJ s _ (first_is old table.once table.first NADJ (codes "nadj") refl) e)))))
+  mark_text (Const s) (inr (inr (inr (inr (inr (inr i)))))) = absurd i
 
   well : (bag : BagPairs) → Each (IsWritableOwn old) bag → Each (StandsWell (text_in old)) (labelled (label_in met) (in_order (text_in old) (pairs_of bag)))
   well bag writable = each_labelled (StandsWell (text_in old)) bag (λ p i.

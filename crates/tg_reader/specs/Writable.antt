@@ -1,9 +1,9 @@
 -- What a text of version 1 can say: the words, names and trees that its grammar has room for, and the texts of such trees.
-use Rattle.std.specs.Prelude.{◌≡◌, ◌≢◌, ℕ, ◌≤◌, List, length, codes, true, ⊤, ◌⊎◌}
+use Rattle.std.specs.Prelude.{◌≡◌, ◌≢◌, ℕ, ◌≤◌, List, length, codes, true, ⊤}
 use Rattle.std.specs.Str.{IsUtf8}
-use Rattle.gr_base.specs.Lists.{Each, NoneTwice}
+use Rattle.gr_base.specs.Lists.{Each, IsAmong, NoneTwice}
 use Rattle.gr_symbols.specs.Numbers.{Grows, first_texts}
-use Rattle.gr_terms.specs.Constants.{MARK, ANCHOR, COANCHOR, SUBST, FOOT, LEX, NADJ}
+use Rattle.gr_terms.specs.Constants.{MARK, mark_numbers}
 use Rattle.gr_terms.specs.declared.Literal.{Literal}
 use Rattle.gr_terms.specs.declared.Sym.{Sym}
 use Rattle.gr_terms.specs.declared.Term.{Term}
@@ -26,7 +26,7 @@ pub record IsWord (text : List ℕ) : Type 0 where
 
 -- the marks, by their numbers
 abbrev pub IsMark : Term → Type 0
-IsMark (Const s) = (s.0 ≡ ANCHOR) ⊎ ((s.0 ≡ COANCHOR) ⊎ ((s.0 ≡ SUBST) ⊎ ((s.0 ≡ FOOT) ⊎ ((s.0 ≡ LEX) ⊎ (s.0 ≡ NADJ)))))
+IsMark (Const s) = IsAmong mark_numbers s.0
 IsMark (Var v) = ⊥
 
 module _ (texts : List (List ℕ)) where

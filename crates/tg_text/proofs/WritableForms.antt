@@ -100,7 +100,8 @@ module _ (texts : List (List ℕ)) (table : IsTable texts) where
     mark_written (Const s) (inr (inr (inl e))) = inr (inr (inl (mark_spelled s.0 SUBST (codes "subst") e (ap (λ z. text_in z SUBST) table.first.1) refl)))
     mark_written (Const s) (inr (inr (inr (inl e)))) = inr (inr (inr (inl (mark_spelled s.0 FOOT (codes "foot") e (ap (λ z. text_in z FOOT) table.first.1) refl))))
     mark_written (Const s) (inr (inr (inr (inr (inl e))))) = inr (inr (inr (inr (inl (mark_spelled s.0 LEX (codes "lex") e (ap (λ z. text_in z LEX) table.first.1) refl)))))
-    mark_written (Const s) (inr (inr (inr (inr (inr e))))) = inr (inr (inr (inr (inr (inl (mark_spelled s.0 NADJ (codes "nadj") e (ap (λ z. text_in z NADJ) table.first.1) refl))))))
+    mark_written (Const s) (inr (inr (inr (inr (inr (inl e)))))) = inr (inr (inr (inr (inr (inl (mark_spelled s.0 NADJ (codes "nadj") e (ap (λ z. text_in z NADJ) table.first.1) refl))))))
+    mark_written (Const s) (inr (inr (inr (inr (inr (inr i)))))) = absurd i
 
     -- ---- terms and pairs
 

@@ -20,6 +20,7 @@ use Rattle.rl_top.specs.declared.outcome.Outcome.{Outcome}
 use Rattle.rl_top.specs.declared.status.Status.{Status}
 use Rattle.rl_top.specs.declared.status.Status.TheVariants as status
 use Rattle.rl_top.proofs.Laws.{NotShortened}
+use Rattle.gr_text.specs.Limits.{byte_limit}
 
 -- words are split in one way
 first_word : (ws vs : List (List ℕ)) (w v : List ℕ) → w ∷ ws ≡ v ∷ vs → (w ≡ v) × (ws ≡ vs)
@@ -71,7 +72,7 @@ outcome_of_cut whole cut models s t e h = elim (cases_lt (length whole) 1048577)
   | inr long ↦ cut_long (omega (arith, length-take 1048577 whole, ap length e)) (omega arith) h
 ]
   where
-    cut_long : 1048576 < length cut → 1048576 < length whole → IsOutcome cut models s t → IsOutcome whole models s t
+    cut_long : byte_limit < length cut → byte_limit < length whole → IsOutcome cut models s t → IsOutcome whole models s t
     cut_long long more (compiled texts m classes numbered good written text_is ending) = let short = good.short in absurd (omega arith)
     cut_long long more (refused texts r numbered first line is) =
         refused texts r (record { short = λ short. absurd (omega arith); long = λ _. numbered.long long }) (refusal_of first) line is
@@ -83,7 +84,7 @@ outcome_of_cut whole cut models s t e h = elim (cases_lt (length whole) 1048577)
         refusal_of (uncompiled m e good fault is) = let short = good.short in absurd (omega arith)
 
 -- the right outcome for the bytes that were fetched is right for the words
-pub right_for : (files : Option (List ℕ → Option (List ℕ))) (words : List (List ℕ)) (file name fetched : List ℕ) (models : ℕ) (s : Status) (t : List ℕ) → AsksCompile words file models → name ≡ file → IsFetched files name 1048576 fetched → IsOutcome fetched models s t → IsRight files words s t
+pub right_for : (files : Option (List ℕ → Option (List ℕ))) (words : List (List ℕ)) (file name fetched : List ℕ) (models : ℕ) (s : Status) (t : List ℕ) → AsksCompile words file models → name ≡ file → IsFetched files name byte_limit fetched → IsOutcome fetched models s t → IsRight files words s t
 right_for None words file name fetched models s t asks same got h = record { file = file; models = models; bytes = fetched; asked = asks; held = tt; outcome = h }
 right_for (Some files) words file name fetched models s t asks same got h = record {
   file = file;

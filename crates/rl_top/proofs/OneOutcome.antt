@@ -8,6 +8,7 @@ use Rattle.gr_base.proofs.ListLemmas.{Each-at}
 use Rattle.gr_symbols.specs.Numbers.{first_texts}
 use Rattle.gr_symbols.proofs.FirstTexts.{NoneTwice-first_texts}
 use Rattle.gr_terms.specs.declared.Sym.{Sym}
+use Rattle.gr_text.specs.Limits.{byte_limit}
 use Rattle.gr_tokens.specs.declared.ReadRefusal.{ReadRefusal}
 use Rattle.gr_tokens.specs.declared.ReadRefusal.TheVariants as reading
 use Rattle.mg_syntax.specs.declared.item.Item.{Item}
@@ -32,13 +33,13 @@ use Rattle.rl_top.proofs.Laws.{TextsApart, OneTable, OneFault, BelowLaws}
 
 -- a file has one numbering, in which no text stands twice
 pub one_numbering : OneTable → (bytes : List ℕ) (a b : List (List ℕ)) → IsNumbering bytes a → IsNumbering bytes b → a ≡ b
-one_numbering one_table bytes a b p q = elim (cases_lt 1048576 (length bytes)) [
+one_numbering one_table bytes a b p q = elim (cases_lt byte_limit (length bytes)) [
   | inl long ↦ p.long long ∙ sym (q.long long)
   | inr short ↦ one_table bytes first_texts a b (p.short short) (q.short short)
 ]
 
 pub texts_apart : TextsApart → (bytes : List ℕ) (texts : List (List ℕ)) → IsNumbering bytes texts → NoneTwice texts
-texts_apart table_apart bytes texts p = elim (cases_lt 1048576 (length bytes)) [
+texts_apart table_apart bytes texts p = elim (cases_lt byte_limit (length bytes)) [
   | inl long ↦ subst (λ z. NoneTwice z) (sym (p.long long)) NoneTwice-first_texts
   | inr short ↦ table_apart bytes first_texts texts NoneTwice-first_texts (p.short short)
 ]

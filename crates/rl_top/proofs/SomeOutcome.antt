@@ -5,6 +5,7 @@ use Rattle.std.specs.List.{AllZip}
 use Rattle.std.proofs.Common.{ap, subst, arith, inl, inr}
 use Rattle.std.proofs.lemmas.Bool.{cases_lt}
 use Rattle.gr_base.specs.Lists.{IsAmong, Each, NoneTwice, gathered}
+use Rattle.gr_text.specs.Limits.{IsShort, byte_limit}
 use Rattle.gr_text.specs.Words.{Spells, quoted}
 use Rattle.gr_text.proofs.WordLemmas.{IsBareWord-settled}
 use Rattle.gr_symbols.specs.Numbers.{Grows, first_texts}
@@ -175,7 +176,7 @@ module _ (apart : TextsApart) (some_answer : SomeAnswer) (some_table : SomeTable
     of_good : HasOutcome
     of_good = of_classes (go_through (valued_classes m) (valued_there m good.scoped) (valued_has texts m known))
 
-  module _ (short : length bytes ≤ 1048576) (texts : List (List ℕ)) (numbered : IsNumbering bytes texts) (grows : Grows first_texts texts) where
+  module _ (short : IsShort bytes) (texts : List (List ℕ)) (numbered : IsNumbering bytes texts) (grows : Grows first_texts texts) where
     of_scoped : (m : List Item) → IsMetagrammar bytes texts m → IsScoped m ⊎ ((f : ScopeRefusal) × IsFirstFault m f) → HasOutcome
     of_scoped m spelled (inl scoped) = of_good texts numbered m (record { short = short; spelled = spelled; scoped = scoped }) (all_named bytes texts m grows spelled)
     of_scoped m spelled (inr (e, fault)) =
@@ -189,15 +190,15 @@ module _ (apart : TextsApart) (some_answer : SomeAnswer) (some_table : SomeTable
       | inr r ↦ refused_by texts r.0 numbered (unread e short h r.1) (read_names texts e r.0 r.1)
     ]
 
-  of_short : length bytes ≤ 1048576 → HasOutcome
+  of_short : IsShort bytes → HasOutcome
   of_short short =
       let t = some_table bytes first_texts in
       let numbered : IsNumbering bytes t.0 = record { short = λ _. t.1; long = λ long. absurd (omega arith) } in
       let a = some_answer bytes first_texts t.0 t.1 in
       of_answer short t.0 numbered (table_grows bytes first_texts t.0 t.1) a.0 a.1
 
-  of_long : 1048576 < length bytes → HasOutcome
+  of_long : byte_limit < length bytes → HasOutcome
   of_long long = refused_by first_texts (refusal.TooLong Metagrammar) (record { short = λ short. absurd (omega arith); long = λ _. refl }) (too_long long refl) (tt, (tt, tt))
 
   pub some_outcome : HasOutcome
-  some_outcome = elim (cases_lt 1048576 (length bytes)) [ inl long ↦ of_long long | inr short ↦ of_short short ]
+  some_outcome = elim (cases_lt byte_limit (length bytes)) [ inl long ↦ of_long long | inr short ↦ of_short short ]

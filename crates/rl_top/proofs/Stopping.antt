@@ -10,6 +10,7 @@ use Rattle.gr_base.proofs.ListLemmas.{Each-at, Each-map, IsAmong-get_or, IsAmong
 use Rattle.gr_symbols.specs.Numbers.{Names, Grows, first_texts}
 use Rattle.gr_symbols.proofs.NumberLemmas.{Names-within, Grows-refl}
 use Rattle.gr_terms.specs.declared.Sym.{Sym}
+use Rattle.gr_text.specs.Limits.{IsShort, byte_limit}
 use Rattle.gr_tokens.specs.declared.ReadRefusal.{ReadRefusal}
 use Rattle.gr_tokens.specs.declared.ReadRefusal.TheVariants as reading
 use Rattle.mg_syntax.specs.declared.item.Item.{Item}
@@ -50,10 +51,10 @@ stops_for M P Q (stop.Refused r) step h = step r h
 stops_for M P Q stop.Memory step h = tt
 
 -- reading
-pub numbering_of : (bytes : List ℕ) (old texts : List (List ℕ)) → length bytes ≤ 1048576 → old ≡ first_texts → IsTable bytes old texts → IsNumbering bytes texts
+pub numbering_of : (bytes : List ℕ) (old texts : List (List ℕ)) → IsShort bytes → old ≡ first_texts → IsTable bytes old texts → IsNumbering bytes texts
 numbering_of bytes old texts short fresh table = record { short = λ _. subst (λ z. IsTable bytes z texts) fresh table; long = λ long. absurd (omega arith) }
 
-pub long_stops : (bytes : List ℕ) (texts : List (List ℕ)) → 1048576 < length bytes → texts ≡ first_texts → (models : ℕ) → IsRefusedFile bytes models texts (refusal.TooLong Metagrammar)
+pub long_stops : (bytes : List ℕ) (texts : List (List ℕ)) → byte_limit < length bytes → texts ≡ first_texts → (models : ℕ) → IsRefusedFile bytes models texts (refusal.TooLong Metagrammar)
 long_stops bytes texts long fresh models = record {
   numbered = record { short = λ short. absurd (omega arith); long = λ _. fresh };
   first = too_long long refl;
@@ -75,7 +76,7 @@ read_names texts (reading.Duplicate p) r is = subst (λ z. lines.HasTexts texts 
 read_names texts (reading.TooManyClasses p) r is = subst (λ z. lines.HasTexts texts z) (sym is) (tt, (tt, tt))
 read_names texts _ r is = absurd is
 
-pub read_stops : (bytes : List ℕ) (old texts : List (List ℕ)) (e : ReadRefusal) (s : Stop) → length bytes ≤ 1048576 → old ≡ first_texts
+pub read_stops : (bytes : List ℕ) (old texts : List (List ℕ)) (e : ReadRefusal) (s : Stop) → IsShort bytes → old ≡ first_texts
     → (e ≡ reading.Memory) ⊎ IsRefusal bytes texts e → (e ≡ reading.Memory) ⊎ IsTable bytes old texts → Stops (e ≡ reading.Memory) (IsOfReading e) s
     → Stops ⊤ (λ r. (models : ℕ) → IsRefusedFile bytes models texts r) s
 read_stops bytes old texts e stop.Memory short fresh fault table of = tt
@@ -94,7 +95,7 @@ scope_stops m e (stop.Refused r) fault of = (e, fault (λ none. subst (λ z. IsO
 pub all_named : (bytes : List ℕ) (texts : List (List ℕ)) (m : List Item) → Grows first_texts texts → IsMetagrammar bytes texts m → HasTexts texts m
 all_named bytes texts m grows spelled = names_have_texts texts texts grows (Grows-refl texts) bytes m spelled
 
-pub unscoped_file : (bytes : List ℕ) (texts : List (List ℕ)) (m : List Item) → length bytes ≤ 1048576 → Grows first_texts texts → IsNumbering bytes texts → IsMetagrammar bytes texts m
+pub unscoped_file : (bytes : List ℕ) (texts : List (List ℕ)) (m : List Item) → IsShort bytes → Grows first_texts texts → IsNumbering bytes texts → IsMetagrammar bytes texts m
     → (r : Refusal) → (e : ScopeRefusal) × IsFirstFault m e × IsOfScope e r → (models : ℕ) → IsRefusedFile bytes models texts r
 unscoped_file bytes texts m short grows numbered spelled r (e, fault, of) models = record {
   numbered = numbered;

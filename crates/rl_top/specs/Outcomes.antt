@@ -5,6 +5,7 @@ use Rattle.gr_base.specs.Lists.{IsAmong, Each}
 use Rattle.gr_io.specs.Outside.{appended}
 use Rattle.gr_symbols.specs.Numbers.{Names, first_texts}
 use Rattle.gr_terms.specs.declared.Sym.{Sym}
+use Rattle.gr_text.specs.Limits.{IsShort, byte_limit}
 use Rattle.gr_tokens.specs.declared.ReadRefusal.{ReadRefusal}
 use Rattle.mg_syntax.specs.declared.item.Item.{Item}
 use Rattle.mg_reader.specs.Answers.{IsMetagrammar, IsRefusal}
@@ -25,12 +26,9 @@ use Rattle.rl_top.specs.Refusals.{IsOfReading, IsOfScope, IsOfCompiling}
 use Rattle.rl_top.specs.declared.status.Status.{Status}
 use Rattle.rl_top.specs.declared.status.Status.TheVariants as status
 
--- the file has at most as many bytes as are read
-abbrev pub IsShort : List ℕ → Type 0
-IsShort bytes = length bytes ≤ 1048576
-
+-- the file has more bytes than are read
 abbrev pub IsTooLong : List ℕ → Type 0
-IsTooLong bytes = 1048576 < length bytes
+IsTooLong bytes = byte_limit < length bytes
 
 -- The numbering of names: the first texts, and then the names of the file by their first places. A file that is too long isn't looked at.
 pub record IsNumbering (bytes : List ℕ) (texts : List (List ℕ)) : Type 0 where

@@ -21,6 +21,7 @@ ghost use Rattle.rl_top.specs.Stops.{Stops};
 use crate::refusals::{Stop, unread};
 use gr_symbols::Symbols;
 use gr_terms::Sym;
+use gr_text::BYTE_LIMIT;
 use mg_compile::compile_class;
 use mg_reader::read_metagrammar;
 use mg_scope::{Resolved, resolve};
@@ -28,9 +29,6 @@ use mg_syntax::Metagrammar;
 use rl_refusals::{Refusal, Role};
 use std::alloc::Global;
 use td_canon::ClassTrees;
-
-/// The most bytes of a file.
-pub const BYTE_LIMIT: usize = 1_048_576;
 
 /// The metagrammar, where it keeps the rules of scope.
 fn scoped(alloc: Global, metagrammar: Metagrammar) -> Result<Resolved, Stop>

@@ -42,10 +42,9 @@ ghost use Rattle.rl_words.specs.Requests.{AsksCompile};
 ghost use Rattle.rl_top.specs.Outcomes.{IsEnough, IsOutcome, Tells, WritesFront, WritesWhole};
 ghost use Rattle.rl_top.specs.declared.status.Status.{Status as Ending};
 
-use crate::compiling::BYTE_LIMIT;
 use crate::outcome::outcome_of;
 use gr_io::{FetchFault, Shelf, Sink, write_all_of};
-use gr_text::Name;
+use gr_text::{BYTE_LIMIT, Name};
 use mg_compile::laws::{
     cut_below_the_steps, each_class_has_an_answer, each_class_has_steps, one_compiled_list,
     one_fault, steps_are_enough,

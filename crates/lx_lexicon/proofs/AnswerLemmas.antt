@@ -1,9 +1,9 @@
 -- One answer is right, and it stays right as the table of texts grows.
-use Rattle.std.proofs.Common.{◌≡◌, ℕ, ◌-◌, List, [], ◌∷◌, length, None, Result, Ok, Err, inl, inr, refl, ap, sym, ◌∙◌, subst}
+use Rattle.std.proofs.Common.{◌≡◌, ℕ, ◌-◌, List, [], length, None, Result, Ok, Err, inl, inr, refl, ap, sym, ◌∙◌, subst}
 use Rattle.std.specs.Prelude.{◌⊎◌}
-use Rattle.std.specs.List.{AllZip}
 use Rattle.std.proofs.lemmas.Option.{same_Some, none-some}
 use Rattle.gr_base.specs.Lists.{NoneTwice}
+use Rattle.gr_base.proofs.Zips.{AllZip-weaker}
 use Rattle.gr_symbols.specs.Numbers.{Grows}
 use Rattle.gr_symbols.proofs.NumberLemmas.{Names-grows}
 use Rattle.gr_text.specs.declared.Place.{Place}
@@ -135,12 +135,6 @@ module _ (texts later : List (List ℕ)) where
   refusal_is bytes r (inr (inr h)) = inr (inr (record { tokens = h.tokens; are = h.are; right = tokens_refusal_is bytes h.tokens r h.right }))
 
 module _ (texts later : List (List ℕ)) (grows : Grows texts later) where
-  zip_stays : {W X : Type 0} (R S : W → X → Type 0) → ((w : W) (x : X) → R w x → S w x) → (ws : List W) (xs : List X) → AllZip R ws xs → AllZip S ws xs
-  zip_stays R S stays [] [] h = tt
-  zip_stays R S stays [] (x ∷ xs) h = absurd h
-  zip_stays R S stays (w ∷ ws) [] h = absurd h
-  zip_stays R S stays (w ∷ ws) (x ∷ xs) h = (stays w x h.0, zip_stays R S stays ws xs h.1)
-
   entry_stays : (w : WrittenEntry) (e : Entry) → IsEntry texts w e → IsEntry later w e
   entry_stays w e h = record {
     lemma = Names-grows texts later e.lemma.0 w.head.lemma.text h.lemma grows;
@@ -152,12 +146,12 @@ module _ (texts later : List (List ℕ)) (grows : Grows texts later) where
     anchor_again = h.anchor_again;
     iface = bag_stays texts later grows _ w.body.iface _ h.behind_iface h.iface;
     anchor = bag_stays texts later grows h.behind_iface w.body.anchor _ h.behind_anchor h.anchor;
-    coanchors = zip_stays (IsCoName texts) (IsCoName later) (λ v c is. record { name = Names-grows texts later c.0.0 v.name.text is.name grows; lemma = Names-grows texts later c.1.0 v.lemma.text is.lemma grows }) w.body.coanchors e.coanchors h.coanchors;
+    coanchors = AllZip-weaker (IsCoName texts) (IsCoName later) (λ v c is. record { name = Names-grows texts later c.0.0 v.name.text is.name grows; lemma = Names-grows texts later c.1.0 v.lemma.text is.lemma grows }) w.body.coanchors e.coanchors h.coanchors;
     literals = literals_stay texts later grows h.behind_anchor w.body.literals e.sem h.behind_all h.literals;
   }
 
   tokens_answer_stays : (bytes : List ℕ) (tokens : List Token) (x : Result (List Entry) ReadRefusal) → IsTokensAnswer bytes tokens texts x → IsTokensAnswer bytes tokens later x
-  tokens_answer_stays bytes tokens (Ok es) h = (h.0, h.1, zip_stays (IsEntry texts) (IsEntry later) entry_stays (lexicon_of h.0.tree) es h.2)
+  tokens_answer_stays bytes tokens (Ok es) h = (h.0, h.1, AllZip-weaker (IsEntry texts) (IsEntry later) entry_stays (lexicon_of h.0.tree) es h.2)
   tokens_answer_stays bytes tokens (Err r) h = tokens_refusal_is texts later bytes tokens r h
 
   read_stays : (bytes : List ℕ) (x : Result (List Entry) ReadRefusal) → IsRead bytes texts x → IsRead bytes later x

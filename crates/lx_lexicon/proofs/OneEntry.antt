@@ -1,7 +1,7 @@
 -- A written entry is one entry.
-use Rattle.std.proofs.Common.{◌≡◌, ℕ, List, [], ◌∷◌, refl, sym, subst}
-use Rattle.std.specs.List.{AllZip}
+use Rattle.std.proofs.Common.{◌≡◌, ℕ, List, [], ◌∷◌, sym, subst}
 use Rattle.gr_base.specs.Lists.{NoneTwice}
+use Rattle.gr_base.proofs.Zips.{AllZip-one}
 use Rattle.gr_terms.specs.declared.Sym.{Sym}
 use Rattle.gr_symbols.proofs.NumberLemmas.{one_sym}
 use Rattle.gr_feats.specs.declared.gathered.Pair.{Pair}
@@ -40,17 +40,6 @@ module _ (texts : List (List ℕ)) (once : NoneTwice texts) where
     keeps = λ before w x a is h. row_keeps (IsTerm texts) terms_one h.behind_pred w.args x.args a (term_keeps texts once h.behind_handle w.pred x.pred h.behind_pred (handle_keeps texts once before w.handle x.handle h.behind_handle is h.handle) h.pred) h.args;
   }
 
-  one_zip : {W X : Type 0} (R : W → X → Type 0) → ((w : W) (x y : X) → R w x → R w y → x ≡ y) → (ws : List W) (xs ys : List X) → AllZip R ws xs → AllZip R ws ys → xs ≡ ys
-  one_zip R one [] [] [] h k = refl
-  one_zip R one [] [] (y ∷ ys) h k = absurd k
-  one_zip R one [] (x ∷ xs) ys h k = absurd h
-  one_zip R one (w ∷ ws) [] ys h k = absurd h
-  one_zip R one (w ∷ ws) (x ∷ xs) [] h k = absurd k
-  one_zip R one (w ∷ ws) (x ∷ xs) (y ∷ ys) h k =
-      let e = one w x y h.0 k.0 in
-      let es = one_zip R one ws xs ys h.1 k.1 in
-      λ i. e i ∷ es i
-
   one_co_name : (w : WrittenCoanchor) (x y : Sym × Sym) → IsCoName texts w x → IsCoName texts w y → x ≡ y
   one_co_name w x y h k =
       let n = one_sym texts once x.0 y.0 w.name.text h.name k.name in
@@ -66,10 +55,10 @@ module _ (texts : List (List ℕ)) (once : NoneTwice texts) where
       let anchor = one_bag texts once h.behind_iface w.body.anchor (record { bag = x.anchor; again = h.anchor_again }) (record { bag = y.anchor; again = k.anchor_again }) h.behind_anchor k.behind_anchor behind h.anchor
       (subst (λ m. IsBag texts m w.body.anchor (record { bag = y.anchor; again = k.anchor_again }) k.behind_anchor) (sym iface.1) k.anchor) in
       let behind_both = pairs_keep h.behind_iface w.body.anchor (record { bag = x.anchor; again = h.anchor_again }) h.behind_anchor behind h.anchor in
-      let coanchors = one_zip (IsCoName texts) one_co_name w.body.coanchors x.coanchors y.coanchors h.coanchors k.coanchors in
+      let coanchors = AllZip-one (IsCoName texts) one_co_name w.body.coanchors x.coanchors y.coanchors h.coanchors k.coanchors in
       let sem = one_row (IsLiteral texts) literals_one h.behind_anchor w.body.literals x.sem y.sem h.behind_all k.behind_all behind_both h.literals
       (subst (λ m. InTurn (IsLiteral texts) m w.body.literals y.sem k.behind_all) (sym anchor.1) k.literals) in
       λ i. record { lemma = lemma i; family = family i; iface = (iface.0 i).bag; anchor = (anchor.0 i).bag; coanchors = coanchors i; sem = sem.0 i }
 
   pub one_lexicon : (ws : List WrittenEntry) (xs ys : List Entry) → AreEntries texts ws xs → AreEntries texts ws ys → xs ≡ ys
-  one_lexicon ws xs ys h k = one_zip (IsEntry texts) one_entry ws xs ys h k
+  one_lexicon ws xs ys h k = AllZip-one (IsEntry texts) one_entry ws xs ys h k

@@ -7,6 +7,7 @@ use Rattle.gr_terms.specs.declared.Sym.{Sym}
 use Rattle.mg_syntax.specs.declared.item.Item.{Item}
 use Rattle.td_desc.specs.Descriptions.{Description}
 use Rattle.td_canon.specs.TreeSets.{Entry}
+use Rattle.td_forest.specs.Limits.{node_limit}
 use Rattle.td_solver.specs.Solutions.{IsModelTotal, IsSolution, IsSolutionText}
 use Rattle.mg_facts.specs.declared.variable.Variable.{Variable}
 use Rattle.mg_facts.specs.Said.{Slot}
@@ -104,7 +105,7 @@ IsRightList text m c budget texts true = IsCutList text m c budget texts
 
 -- the expansion doesn't clash and has more nodes than the limit
 abbrev pub HasTooManyNodes : List Item → Walk → Type 0
-HasTooManyNodes m w = (d : Description Variable Slot) × Describes m w d × (24 < length d.nodes)
+HasTooManyNodes m w = (d : Description Variable Slot) × Describes m w d × (node_limit < length d.nodes)
 
 -- the expansion of the class is refused so: it has too many calls and items, or else too many nodes
 abbrev pub IsFaultOf : List Item → Sym → Walk → CompileRefusal → Type 0

@@ -4,6 +4,7 @@ use Rattle.gr_terms.specs.declared.Sym.{Sym}
 use Rattle.td_desc.specs.declared.Description.{Description}
 use Rattle.td_desc.specs.Descriptions.{description_of}
 use Rattle.td_desc.specs.Conditions.{IsNumbered}
+use Rattle.td_forest.specs.Limits.{node_limit}
 use Rattle.td_model.specs.ModelTrees.{IsNamedDescription}
 use Rattle.td_solver.specs.Solutions.{IsModelTotal, GainsSome, GainsAll}
 use Rattle.mg_expand.specs.declared.step.Step.{Step}
@@ -54,7 +55,7 @@ Passed old new = Paid old new ⊎ LacksUnits old new
 
 -- what an answer of an expander adds, and whether another one is to come
 abbrev pub Took : List (List ℕ) → Step → Found → Found → Bool → Type 0
-Took texts (step.Description d) old new more = (more ≡ true) × (length d.nodes ≤ 24) × Searched texts d old new
+Took texts (step.Description d) old new more = (more ≡ true) × (length d.nodes ≤ node_limit) × Searched texts d old new
 Took texts step.Clash old new more = (more ≡ true) × Passed old new
 Took texts step.TooLarge old new more = ⊥
 Took texts step.End old new more = (more ≡ false) × (new ≡ old)
@@ -62,7 +63,7 @@ Took texts step.Cut old new more = (more ≡ false) × (new ≡ record old { cut
 
 -- the answer refuses the class
 abbrev pub Refuses : Sym → Step → CompileRefusal → Type 0
-Refuses c (step.Description d) e = (e ≡ refusal.TooManyNodes c) × (24 < length d.nodes)
+Refuses c (step.Description d) e = (e ≡ refusal.TooManyNodes c) × (node_limit < length d.nodes)
 Refuses c step.Clash e = ⊥
 Refuses c step.TooLarge e = e ≡ refusal.TooLarge c
 Refuses c step.End e = ⊥

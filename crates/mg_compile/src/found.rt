@@ -3,6 +3,7 @@ ghost use Rattle.std.specs.Prelude.{◌≡◌, ◌≤◌, length, OnOk, IfOk, If
 ghost use Rattle.std.specs.Bool.{OnTrue, OnFalse};
 ghost use Rattle.td_canon.specs.TreeSets.{IsWhole};
 ghost use Rattle.td_desc.specs.Conditions.{IsNumbered};
+ghost use Rattle.td_forest.specs.Limits.{node_limit};
 ghost use Rattle.td_model.specs.ModelTrees.{IsNamedDescription};
 ghost use Rattle.mg_compile.specs.Taking.{Paid, LacksUnits, Searched, Took, Refuses, IsFit};
 ghost use Rattle.mg_compile.specs.declared.refusal.CompileRefusal.TheVariants as CompileRefusal;
@@ -16,10 +17,8 @@ use mg_expand::Step;
 use std::alloc::Global;
 use td_canon::TreeSet;
 use td_desc::Description;
+use td_forest::NODE_LIMIT;
 use td_solver::{Solved, solve};
-
-/// The most nodes of an expansion.
-const NODE_LIMIT: usize = 24;
 
 /// What was found of the expansions that were gone through so far.
 #[derive(Drop)]
@@ -51,7 +50,7 @@ fn search(
     d: &Description,
     found: &mut Found,
 ) -> Result<(), Memory>
-    requires few { length d.now.nodes ≤ 24 }
+    requires few { length d.now.nodes ≤ node_limit }
     requires numbered { IsNumbered d.now }
     requires named { IsNamedDescription (length symbols.now) d.now }
     ensures searched { OnOk result (Searched symbols.now d.now found.old found.new) }

@@ -2,7 +2,8 @@
 use Rattle.std.specs.Prelude.{◌≡◌, ℕ, suc, ◌+◌, ◌<◌, ◌≤◌, List, [], ◌∷◌, ◌++◌, map, length, take, Bool, true, false, Some, slice_get, refl}
 use Rattle.std.proofs.Common.{ap, sym, ◌∙◌, subst, arith, append_assoc}
 use Rattle.std.proofs.lemmas.List.{length-append, length-take-le, length-map, append-nil}
-use Rattle.gr_base.proofs.ListLemmas.{same_head, same_tail}
+use Rattle.std.proofs.lemmas.Bool.{true≢false}
+use Rattle.gr_base.proofs.ListLemmas.{same_head, same_tail, cons-not_nil}
 use Rattle.gr_terms.specs.declared.Sym.{Sym}
 use Rattle.mg_syntax.specs.declared.item.Class.{Class}
 use Rattle.mg_syntax.specs.declared.item.Item.{Item}
@@ -30,15 +31,12 @@ use Rattle.mg_expand.proofs.ErrandLemmas.{last_same, no_last, AreLinked-take, Le
 
 -- LISTS
 
-not_empty : {A : Type 0} (x : A) (xs : List A) → [] ≡ x ∷ xs → ⊥
-not_empty x xs e = cc
-
 -- what stands at a place of the list of images
 image_at : {A B : Type 0} (f : A → B) (xs : List A) (before : List B) (y : B) (later : List B) → map f xs ≡ before ++ y ∷ later
     → (x : A) × (slice_get xs (length before) ≡ Some x) × (f x ≡ y)
-image_at f [] [] y later e = absurd (not_empty y later e)
+image_at f [] [] y later e = absurd (cons-not_nil y later (sym e))
 image_at f (x ∷ xs) [] y later e = (x, refl, same_head (f x) y (map f xs) later e)
-image_at f [] (z ∷ before) y later e = absurd (not_empty z (before ++ y ∷ later) e)
+image_at f [] (z ∷ before) y later e = absurd (cons-not_nil z (before ++ y ∷ later) (sym e))
 image_at f (x ∷ xs) (z ∷ before) y later e = image_at f xs before y later (same_tail (f x) z (map f xs) (before ++ y ∷ later) e)
 
 -- FORKS
@@ -231,11 +229,8 @@ gave-clash m w outs end clashes =
 
 -- ANSWERS
 
-true_false : true ≡ false → ⊥
-true_false e = cc
-
 pub failed-underway : (m : List Item) (c : Sym) (given : ℕ) (too_large : Bool) (w : Walker) → IsUnderway m c given too_large true w
-failed-underway m c given too_large w = λ p q. absurd (true_false q)
+failed-underway m c given too_large w = λ p q. absurd (true≢false q)
 
 -- after want of memory
 pub fails-again : (p : Progress) (left : ℕ) → p.failed ≡ true → Fails p p left left

@@ -1,8 +1,8 @@
 -- Facts clash exactly where the network doesn't agree, a root has two colours, or a variable of a node stands as a value; and the nodes in order.
-use Rattle.std.specs.Prelude.{◌≡◌, ℕ, ◌+◌, ◌*◌, ◌<◌, ◌≤◌, List, [], ◌∷◌, ◌++◌, map, length, get_or, Bool, true, false, Option, Some, None, ◌⊎◌, refl}
+use Rattle.std.specs.Prelude.{◌≡◌, ℕ, ◌+◌, ◌*◌, ◌<◌, ◌≤◌, List, [], ◌∷◌, ◌++◌, map, length, get_or, Bool, false, Option, Some, None, ◌⊎◌, refl}
 use Rattle.std.proofs.Common.{inl, inr, ap, ap₂, sym, ◌∙◌, subst, arith}
 use Rattle.std.proofs.lemmas.List.{map-append}
-use Rattle.std.proofs.lemmas.Option.{same_Some}
+use Rattle.std.proofs.lemmas.Option.{same_Some, none-some}
 use Rattle.gr_base.specs.Lists.{IsAmong, IsWithin, Each, NoneTwice, IsSublist, gathered}
 use Rattle.gr_base.proofs.ListLemmas.{Each-at, Each-members, Each-map, IsAmong-map, IsAmong-map_from, IsAmong-append, IsAmong-append_left, IsAmong-append_right, IsAmong-slice_get, slice_get-mapped}
 use Rattle.gr_terms.specs.Networks.{Agrees}
@@ -19,12 +19,6 @@ use Rattle.mg_facts.proofs.GatheredLemmas.{IsSublist-map}
 use Rattle.mg_facts.proofs.ReadingLemmas.{agrees-said}
 use Rattle.mg_facts.proofs.ClassLemmas.{one_root, root_one}
 use Rattle.mg_facts.proofs.MeaningLemmas.{standing_below, values_below, colours_below, standing-said, colour_to, colour_from, value_number, number_value, standing_number, number_standing}
-
-none_is_not_some : {A : Type 0} (x : A) → None ≡ Some x → ⊥
-none_is_not_some x e = cc
-
-true_is_not_false : true ≡ false → ⊥
-true_is_not_false e = cc
 
 pub sublist_within : {A : Type 0} (xs ys : List A) → IsSublist xs ys → IsWithin xs ys
 sublist_within xs [] h x i = subst (λ z. IsAmong z x) h i
@@ -102,7 +96,7 @@ module _ (names : List Variable) (facts : List Fact) (once : NoneTwice names) (b
           let p = colour_to names facts h.0 d h.1 in
           let m : AreIdentified all (named names x) (named names p.0) = subst (λ z. AreIdentified all (named names x) z) p.2 h.2 in
           let r : root roots x ≡ root roots p.0 = one_root names facts once below roots are x p.0 l (colour p.0 d p.1) m in
-          none_is_not_some d (sym e ∙ ap (λ r. get_or table r None) r ∙ colours.all p.0 d p.1),
+          none-some d (sym e ∙ ap (λ r. get_or table r None) r ∙ colours.all p.0 d p.1),
     )
     colour_by x l (Some c) e =
         let q = colours.only (root roots x) c e in

@@ -3,8 +3,8 @@ use Rattle.std.specs.Prelude.{◌≡◌, ◌≢◌, ◌↔◌, ℕ, zero, suc, �
 use Rattle.std.proofs.Common.{inl, inr, ap, ap₂, sym, ◌∙◌, subst, append_assoc, arith}
 use Rattle.std.proofs.Math.Seq.{take-length}
 use Rattle.std.proofs.lemmas.List.{append-nil, take_more, get_or-replicate, get_or_past, get_or-set_same, get_or-set_other, length-set, length-replicate, length_push}
-use Rattle.std.proofs.lemmas.Option.{slice_get-get_or, same_Some}
-use Rattle.std.proofs.lemmas.Bool.{cases_lt}
+use Rattle.std.proofs.lemmas.Option.{slice_get-get_or, same_Some, none-some}
+use Rattle.std.proofs.lemmas.Bool.{cases_lt, false≢true}
 use Rattle.gr_base.specs.Lists.{IsAmong, Each, IsSublist, gathered}
 use Rattle.gr_base.proofs.ListLemmas.{Each-at, IsAmong-append, IsAmong-append_left, IsAmong-append_right, IsAmong-one_more, IsAmong-new_one, IsAmong-get_or, Each-weaker, IsWithin-take}
 use Rattle.td_desc.specs.declared.Colour.{Colour}
@@ -24,12 +24,6 @@ same_or_other (suc i) (suc j) = elim (same_or_other i j) [ inl e ↦ inl (ap (λ
 pub replicated : {A : Type 0} (n r : ℕ) (a : A) → get_or (replicate n a) r a ≡ a
 replicated n r a = elim (cases_lt r n) [ inl h ↦ get_or-replicate n r a a h | inr h ↦ get_or_past (replicate n a) r a (subst (λ k. k ≤ r) (sym (length-replicate n a)) h) ]
 
-none_is_not_some : {A : Type 0} (x : A) → None ≡ Some x → ⊥
-none_is_not_some x e = cc
-
-false_is_not_true : false ≡ true → ⊥
-false_is_not_true e = cc
-
 -- all are taken
 pub taken_all : {A : Type 0} (xs : List A) (i : ℕ) → length xs ≤ i → take i xs ≡ xs
 taken_all [] zero h = refl
@@ -38,7 +32,7 @@ taken_all (x ∷ xs) zero h = absurd (omega arith)
 taken_all (x ∷ xs) (suc i) h = ap (λ z. x ∷ z) (taken_all xs i (omega arith))
 
 pub false_is_no_true : {P : Type 0} → false ≡ true → P
-false_is_no_true e = absurd (false_is_not_true e)
+false_is_no_true e = absurd (false≢true e)
 
 same_colour : (c d : Colour) → (c ≡ d) ⊎ (c ≡ d → ⊥)
 same_colour Black Black = inl refl
@@ -99,7 +93,7 @@ module _ (roots : List ℕ) where
   AreColours-none = record {
     size = length-replicate (length roots) None;
     all = λ x c i. absurd i;
-    only = λ r c e. absurd (none_is_not_some c (sym (replicated (length roots) r None) ∙ e));
+    only = λ r c e. absurd (none-some c (sym (replicated (length roots) r None) ∙ e));
   }
 
   one_colour_more : (painted : List (ℕ × Colour)) (x : ℕ) (c : Colour) (table : List (Option Colour)) → root roots x < length table
@@ -162,7 +156,7 @@ module _ (roots : List ℕ) where
   AreMarked-none = record {
     size = length-replicate (length roots) false;
     all = λ x i. absurd i;
-    only = λ r e. absurd (false_is_not_true (sym (replicated (length roots) r false) ∙ e));
+    only = λ r e. absurd (false≢true (sym (replicated (length roots) r false) ∙ e));
   }
 
   pub AreMarked-again : (xs : List ℕ) (x : ℕ) (table : List Bool) → get_or table (root roots x) false ≡ true → AreMarked roots xs table → AreMarked roots (xs ++ x ∷ []) table
@@ -221,7 +215,7 @@ module _ (roots : List ℕ) where
   pub firsts-new : (xs firsts : List ℕ) (x : ℕ) (table : List Bool) → AreFirstOnes roots [] xs firsts → AreMarked roots xs table → get_or table (root roots x) false ≡ false
       → AreFirstOnes roots [] (xs ++ x ∷ []) (firsts ++ x ∷ [])
   firsts-new xs firsts x table h are e =
-      fresh [] xs firsts x h (λ y i. absurd i) (λ y i p. false_is_not_true (sym e ∙ ap (λ k. get_or table k false) p ∙ are.all y i))
+      fresh [] xs firsts x h (λ y i. absurd i) (λ y i p. false≢true (sym e ∙ ap (λ k. get_or table k false) p ∙ are.all y i))
 
   -- VALUES
 

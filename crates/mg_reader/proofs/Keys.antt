@@ -7,6 +7,7 @@ use Rattle.std.proofs.lemmas.List.{map-append}
 use Rattle.std.proofs.lemmas.Bool.{cases_lt, ne_eqb, eqb-true}
 use Rattle.std.proofs.Math.Bool.{or_assoc}
 use Rattle.std.proofs.Math.Nat.{min-eq_left, min-eq_right, min-le_left}
+use Rattle.gr_reader.proofs.Steps.{pushed}
 use Rattle.gr_base.proofs.Booleans.{or_false, not_not}
 use Rattle.gr_grammar.specs.Grammars.{star, Matches, both, the_left, the_right, no_more, one_more, tree_of, begins, Rounds, round_items, items}
 use Rattle.gr_grammar.proofs.Loops.{ended, ended-items}
@@ -24,7 +25,7 @@ use Rattle.mg_reader.specs.Grammar.{system, more_pair_text, more_property_text, 
 use Rattle.mg_reader.specs.Values.{pair_of, more_pair_of, more_property_of, with_property, with_properties, no_properties, more_feature_of, with_feature, with_features, no_features, item_of}
 use Rattle.mg_reader.specs.Complaints.{or_first, among, again, key_bad, FeatureRead, more_feature_read, feature_bad, feature_row_bad, ItemRead, item_read, word_bad, item_bad, too_many, with_class, item_row_bad}
 use Rattle.mg_reader.specs.Reading.{Notes, counted}
-use Rattle.mg_reader.proofs.Steps.{noted, pushed}
+use Rattle.mg_reader.proofs.Steps.{noted}
 
 abbrev pub number_of : Lexeme → ℕ
 number_of k = k.name.0

@@ -79,10 +79,6 @@ pub below : {g : Grammar Class} {ts rest : List Lexeme} → Rounds system g ts r
 below start = omega arith
 below (round r b m) = let x = below r in let y = no_longer system (tree_of m) in omega arith
 
--- one more at the end of a row
-pub pushed : {A : Type 0} (xs base : List A) {ys zs : List A} {x y : A} → zs ≡ ys ++ x ∷ [] → ys ≡ base ++ xs → x ≡ y → zs ≡ base ++ (xs ++ y ∷ [])
-pushed xs base {y} h i e = h ∙ ((λ n. i n ++ e n ∷ []) ∙ append_assoc base xs (y ∷ []))
-
 -- the value of a row
 pub row_value : {A : Type 0} {g : Grammar Class} {ts mid : List Lexeme} {row base : List A} {k y : A} (f : (ts rest : List Lexeme) → Matches system g ts rest → A) (r : Rounds system g ts mid) (b : begins system g mid ≡ false) →
     base ≡ [] ++ k ∷ [] → k ≡ y → row ≡ base ++ round_items f r → row ≡ y ∷ items f (tree_of (ended r b))

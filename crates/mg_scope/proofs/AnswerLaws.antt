@@ -3,7 +3,7 @@ use Rattle.std.specs.Prelude.{◌≡◌, ℕ, zero, suc, ◌+◌, ◌<◌, ◌�
 use Rattle.std.proofs.Common.{inl, inr, refl, ap, sym, ◌∙◌, subst, arith}
 use Rattle.std.proofs.lemmas.Option.{same_Some}
 use Rattle.gr_base.specs.Lists.{IsAmong, Each}
-use Rattle.gr_base.proofs.ListLemmas.{same_head, same_tail, IsAmong-append_left, IsAmong-append_right, Each-at}
+use Rattle.gr_base.proofs.ListLemmas.{same_head, same_tail, IsAmong-append_left, IsAmong-append_right, Each-at, cons-not_nil}
 use Rattle.gr_terms.specs.declared.Sym.{Sym}
 use Rattle.mg_syntax.specs.declared.body.Ref.{Ref}
 use Rattle.mg_syntax.specs.declared.item.Class.{Class}
@@ -60,13 +60,10 @@ first_one P xs x y (before, after, parts, each, wrong) (before', after', parts',
       | first_later more p ↦ absurd (wrong' (Each-at P before y each (subst (λ z. IsAmong z y) (sym p) (IsAmong-append_right before' (y ∷ more) y (inl refl)))))
     ]
 
-empty-cons : {A : Type 0} (x : A) (xs : List A) → [] ≡ x ∷ xs → ⊥
-empty-cons x xs e = cc
-
 -- what stands at the later place stands behind the earlier one
 behind : (before before' after after' : List Sym) (b c : Sym) (more : List Sym) → before ++ b ∷ after ≡ before' ++ c ∷ after' → before' ≡ before ++ b ∷ more → IsAmong (b ∷ after) c
 behind [] before' after after' b c more e p = subst (λ z. IsAmong z c) (sym e) (IsAmong-append_right before' (c ∷ after') c (inl refl))
-behind (x ∷ before) [] after after' b c more e p = absurd (empty-cons x (before ++ b ∷ more) p)
+behind (x ∷ before) [] after after' b c more e p = absurd (cons-not_nil x (before ++ b ∷ more) (sym p))
 behind (x ∷ before) (y ∷ before') after after' b c more e p =
     behind before before' after after' b c more (same_tail x y (before ++ b ∷ after) (before' ++ c ∷ after') e) (same_tail y x before' (before ++ b ∷ more) p)
 

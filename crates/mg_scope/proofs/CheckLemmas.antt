@@ -4,7 +4,7 @@ use Rattle.std.proofs.Common.{inl, inr, refl, ap, sym, ◌∙◌, subst, arith, 
 use Rattle.std.proofs.lemmas.List.{take_all}
 use Rattle.std.proofs.lemmas.Option.{none-some, same_Some, slice_get-get_or, slice_get_within}
 use Rattle.gr_base.specs.Lists.{IsAmong, Each}
-use Rattle.gr_base.proofs.ListLemmas.{same_head, same_tail, IsAmong-append_left, IsAmong-append_right, IsAmong-append, IsAmong-slice_get, slice_get-IsAmong, slice_get-append_left, Each-at, Each-members}
+use Rattle.gr_base.proofs.ListLemmas.{same_head, same_tail, IsAmong-append_left, IsAmong-append_right, IsAmong-append, IsAmong-slice_get, slice_get-IsAmong, slice_get-append_left, Each-at, Each-members, cons-not_nil}
 use Rattle.gr_terms.specs.declared.Sym.{Sym}
 use Rattle.mg_syntax.specs.declared.item.Class.{Class}
 use Rattle.mg_syntax.specs.declared.item.Item.{Item}
@@ -138,14 +138,11 @@ take_front : {A : Type 0} (done rest : List A) → take (length done) (done ++ r
 take_front [] rest = refl
 take_front (x ∷ done) rest = ap (λ z. x ∷ z) (take_front done rest)
 
-cons-nil : {A : Type 0} (x : A) (xs : List A) → [] ≡ x ∷ xs → ⊥
-cons-nil x xs e = cc
-
 front_place : {A : Type 0} (m done rest : List A) (i : A) (place : ℕ) → take place m ≡ done ++ i ∷ rest → (length done < place) × (slice_get m (length done) ≡ Some i) × (take (length done) m ≡ done)
-front_place m [] rest i zero e = absurd (cons-nil i rest e)
-front_place m (d ∷ done) rest i zero e = absurd (cons-nil d (done ++ i ∷ rest) e)
-front_place [] [] rest i (suc place) e = absurd (cons-nil i rest e)
-front_place [] (d ∷ done) rest i (suc place) e = absurd (cons-nil d (done ++ i ∷ rest) e)
+front_place m [] rest i zero e = absurd (cons-not_nil i rest (sym e))
+front_place m (d ∷ done) rest i zero e = absurd (cons-not_nil d (done ++ i ∷ rest) (sym e))
+front_place [] [] rest i (suc place) e = absurd (cons-not_nil i rest (sym e))
+front_place [] (d ∷ done) rest i (suc place) e = absurd (cons-not_nil d (done ++ i ∷ rest) (sym e))
 front_place (x ∷ m) [] rest i (suc place) e = (omega arith, ap Some (same_head x i (take place m) rest e), refl)
 front_place (x ∷ m) (d ∷ done) rest i (suc place) e =
     let r = front_place m done rest i place (same_tail x d (take place m) (done ++ i ∷ rest) e) in

@@ -1,1 +1,1 @@
-mod ReadLemmas
+pub mod ReadLemmas

@@ -1,5 +1,5 @@
 -- What is read as it is written.
-use Rattle.std.proofs.Common.{◌≡◌, ◌≤◌, ℕ, List, [], ◌∷◌, ◌++◌, length, Bool, true, false, Option, Some, None, sym, ap, subst, arith}
+use Rattle.std.proofs.Common.{◌≡◌, ◌≤◌, ℕ, List, [], ◌∷◌, ◌++◌, length, Bool, true, false, Option, Some, None, ap, arith}
 use Rattle.std.specs.List.{AllZip}
 use Rattle.gr_reader.specs.Lexemes.{Lexeme}
 use Rattle.gr_reader.specs.Classes.{Class}
@@ -10,8 +10,7 @@ use Rattle.gr_feats.specs.declared.terms.Side.TheVariants.{Name, Variable}
 use Rattle.gr_feats.specs.Grammars.{Written, a_name, a_variable, with_args}
 use Rattle.gr_feats.specs.Sides.{IsSide, IsPerhapsSide}
 use Rattle.sm_input.specs.Reading.{IsRawTerm, IsRawLiteral, raw_term, raw_literal}
-use Rattle.std.proofs.lemmas.Slice.Zip.{all_zipped_more}
-use Rattle.gr_base.proofs.Zips.{AllZip-none}
+use Rattle.gr_base.proofs.Zips.{AllZip-none, AllZip-pushed}
 
 pub side_raw : (texts : List (List ℕ)) (w : Written) (s : Side) → IsSide texts w s → IsRawTerm texts w (raw_term s)
 side_raw texts (a_name t) (Name s) h = h
@@ -26,12 +25,8 @@ literal_raw texts w None ws s (Some t) xs h k z = absurd k
 literal_raw texts w (Some v) ws s None xs h k z = absurd k
 literal_raw texts w (Some v) ws s (Some t) xs h k z = record { handle = side_raw texts w s h; pred = side_raw texts v t k; args = z }
 
--- a row of one, and of one more
-pub zip_more : {W X : Type 0} (R : W → X → Type 0) (ws : List W) (xs ys : List X) (w : W) (x : X) → AllZip R ws xs → R w x → ys ≡ xs ++ x ∷ [] → AllZip R (ws ++ w ∷ []) ys
-zip_more R ws xs ys w x z r e = subst (AllZip R (ws ++ w ∷ [])) (sym e) (all_zipped_more R ws xs w x z r)
-
 pub zip_first : {W X : Type 0} (R : W → X → Type 0) (xs ys : List X) (w : W) (x : X) → xs ≡ [] → R w x → ys ≡ xs ++ x ∷ [] → AllZip R (w ∷ []) ys
-zip_first R xs ys w x none r e = zip_more R [] xs ys w x (AllZip-none R xs none) r e
+zip_first R xs ys w x none r e = AllZip-pushed R [] xs ys w x (AllZip-none R xs none) r e
 
 -- a lexeme that may be skipped
 pub skipped : (c : Class) (ts rest : List Lexeme) (b : Bool) → Skips c ts rest b → length rest ≤ length ts

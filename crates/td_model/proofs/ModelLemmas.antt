@@ -1,11 +1,12 @@
 -- The text of a model is that of its tree, it is one, and the tree has the description's names alone.
-use Rattle.std.specs.Prelude.{◌≡◌, ℕ, suc, ◌+◌, ◌<◌, List, [], ◌∷◌, map, length, ◌⊎◌, ◌↔◌, ⊤, Option, Some, None, slice_get, refl}
+use Rattle.std.specs.Prelude.{◌≡◌, ℕ, suc, ◌+◌, ◌<◌, List, [], ◌∷◌, map, length, ◌⊎◌, ◌↔◌, ⊤, Option, Some, None, slice_get}
 use Rattle.std.specs.List.{AllZip}
 use Rattle.std.proofs.Common.{inl, inr, ap, sym, ◌∙◌, subst}
 use Rattle.gr_base.specs.Lists.{IsAmong, Each, NoneTwice, gathered}
 use Rattle.gr_base.specs.Forests.{Forest, empty, tree, labels, size, AreAlike}
 use Rattle.gr_base.proofs.ForestLemmas.{AreAlike-unique}
 use Rattle.gr_base.proofs.ListLemmas.{Each-at, Each-append, Each-members, IsAmong-append, IsAmong-map_from}
+use Rattle.gr_base.proofs.Zips.{AllZip-one}
 use Rattle.gr_terms.specs.Canonical.{Decorated, Literal, Node}
 use Rattle.gr_terms.specs.LiteralViews.{literals_of}
 use Rattle.gr_terms.specs.Networks.{Term, name, variable, Assertion, entry, equate, link, Agrees, AreLinked, equated, shared, same, back, next}
@@ -233,19 +234,11 @@ module _ (N : List (Assertion ℕ ℕ)) (agrees : Agrees N) where
   one_term : (x : Term ℕ) (v w : code_term.Term) → StandsFor N x v → StandsFor N x w → v ≡ w
   one_term x v w h k = stands_one N x x v w agrees (same x) h k
 
-  one_zip : {A B : Type 0} (R : A → B → Type 0) → ((x : A) (y z : B) → R x y → R x z → y ≡ z) → (xs : List A) (ys zs : List B) → AllZip R xs ys → AllZip R xs zs → ys ≡ zs
-  one_zip R one [] [] [] h k = refl
-  one_zip R one [] [] (z ∷ zs) h k = absurd k
-  one_zip R one [] (y ∷ ys) zs h k = absurd h
-  one_zip R one (x ∷ xs) [] zs h k = absurd h
-  one_zip R one (x ∷ xs) (y ∷ ys) [] h k = absurd k
-  one_zip R one (x ∷ xs) (y ∷ ys) (z ∷ zs) h k = let e = one x y z h.0 k.0 in let f = one_zip R one xs ys zs h.1 k.1 in λ i. e i ∷ f i
-
   one_literal : (l : Literal (Term ℕ)) (k m : code_literal.Literal) → StandsForLiteral N l k → StandsForLiteral N l m → k ≡ m
   one_literal l k m h g =
       let handle = one_term l.handle k.handle m.handle h.handle g.handle in
       let pred = one_term l.pred k.pred m.pred h.pred g.pred in
-      let args = one_zip (StandsFor N) one_term l.args k.args m.args h.args g.args in
+      let args = AllZip-one (StandsFor N) one_term l.args k.args m.args h.args g.args in
       λ i. record { handle = handle i; pred = pred i; args = args i }
 
   pub one_tree : (u : Decorated ℕ (Term ℕ)) (t other : Tree) → IsCanonicalTree N u t → IsCanonicalTree N u other → t ≡ other
@@ -253,5 +246,5 @@ module _ (N : List (Assertion ℕ ℕ)) (agrees : Agrees N) where
       let forest = AreAlike-unique (HasBags N) one_node u.nodes a.nodes.forest b.nodes.forest a.bags b.bags in
       let nodes = a.nodes.laid ∙ ap (preorder 0 None) forest ∙ sym b.nodes.laid in
       let iface = one_canonical_bag N u.interface t.iface other.iface a.interface b.interface in
-      let sem = one_zip (StandsForLiteral N) one_literal u.literals t.sem other.sem a.literals b.literals in
+      let sem = AllZip-one (StandsForLiteral N) one_literal u.literals t.sem other.sem a.literals b.literals in
       λ i. record { nodes = nodes i; iface = iface i; sem = sem i }

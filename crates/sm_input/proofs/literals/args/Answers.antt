@@ -8,9 +8,10 @@ use Rattle.gr_reader.specs.declared.reader.Stop.TheVariants.{Memory as NoMemory}
 use Rattle.gr_reader.proofs.Steps.{first_stops, then_stops, row_stops, memory_stops}
 use Rattle.gr_feats.specs.Grammars.{next_arg_text, next_arg_of, term_of}
 use Rattle.std.specs.List.{AllZip}
+use Rattle.gr_base.proofs.Zips.{AllZip-pushed}
 use Rattle.gr_feats.proofs.PassingLemmas.{pass_texts, texts_then}
 use Rattle.sm_input.specs.Reading.{IsRawTerm}
-use Rattle.sm_input.proofs.RawLemmas.{zip_more, zip_first}
+use Rattle.sm_input.proofs.RawLemmas.{zip_first}
 use Rattle.gr_feats.proofs.ReadingLemmas.{begins_next, shorter, ReadsOn-start, ReadsOn-more, ReadsOn-end}
 use Rattle.gr_feats.proofs.TableLemmas.{puts_both}
 use Rattle.sm_input.proofs.literals.args.Goals as goal
@@ -47,7 +48,7 @@ row-preserved c =
     let b : begins flat next_arg_text c.row.reader ≡ true = begins_next (sign (codes ",")) c.row.reader c.sees_or_term.ensures c.row-test.true in
     ReadsOn-more next_arg_text (λ ts rest m. next_arg_of m) (λ texts ws x. AllZip (IsRawTerm texts) ws x.0) _ _ _ _ _ _ _ _ _
     c.row.invariant b c.in_ok-next.ensures.reads.0 (pass_texts c.in_ok-next.ensures.passes) c.in_ok-next.ensures.table
-    (λ ws later grows h. zip_more (IsRawTerm later) ws _ _ _ _ h (c.in_ok-next.ensures.reads.1 later grows) c.in_ok-_next.ensures.ok)
+    (λ ws later grows h. AllZip-pushed (IsRawTerm later) ws _ _ _ _ h (c.in_ok-next.ensures.reads.1 later grows) c.in_ok-_next.ensures.ok)
 
 pub returns-clause-reads : goal.returns-clause-reads
 returns-clause-reads c =

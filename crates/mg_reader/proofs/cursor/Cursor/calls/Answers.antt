@@ -1,8 +1,9 @@
 use Rattle.std.proofs.Common.{rules, ◌≡◌, [], ◌∷◌, ◌++◌, Err, refl, sym, ap, ◌∙◌, append-nil}
+use Rattle.gr_reader.proofs.Steps.{pushed}
 use Rattle.gr_grammar.specs.Grammars.{run_both, start, round}
 use Rattle.gr_grammar.proofs.Loops.{ended}
 use Rattle.mg_reader.specs.Values.{call_of}
-use Rattle.mg_reader.proofs.Steps.{first_stops, then_stops, row_stops, memory_stops, shorter, pushed, row_value}
+use Rattle.mg_reader.proofs.Steps.{first_stops, then_stops, row_stops, memory_stops, shorter, row_value}
 use Rattle.mg_reader.proofs.cursor.Cursor.calls.Goals as goal
 
 pub returns-in_err-first : goal.returns-in_err-first

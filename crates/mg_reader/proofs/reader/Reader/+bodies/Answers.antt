@@ -1,4 +1,5 @@
 use Rattle.std.proofs.Common.{rules, ◌≡◌, [], ◌∷◌, ◌++◌, Err, refl, sym, ap, ◌∙◌, arith, append-nil}
+use Rattle.gr_reader.proofs.Steps.{pushed}
 use Rattle.gr_grammar.specs.Grammars.{tree_of, run_both, run_left, run_right, run_part, take_nothing, start, round, round_items}
 use Rattle.gr_grammar.proofs.Fronts.{no_longer}
 use Rattle.gr_grammar.proofs.Loops.{ended}
@@ -6,7 +7,7 @@ use Rattle.mg_reader.specs.Grammar.{system}
 use Rattle.mg_reader.specs.Values.{more_alternative_of, more_statement_of}
 use Rattle.mg_reader.specs.Complaints.{more_alternative_bad, more_statement_bad}
 use Rattle.mg_syntax.specs.declared.body.Statement.TheVariants as statement
-use Rattle.mg_reader.proofs.Steps.{first_stops, then_stops, left_stops, right_stops, part_stops, row_stops, memory_stops, shorter, below, pushed, row_value_by, all_pushed, row_notes_by, alternatives_items, alternatives_notes, statements_items, statements_notes}
+use Rattle.mg_reader.proofs.Steps.{first_stops, then_stops, left_stops, right_stops, part_stops, row_stops, memory_stops, shorter, below, row_value_by, all_pushed, row_notes_by, alternatives_items, alternatives_notes, statements_items, statements_notes}
 use Rattle.mg_reader.proofs.reader.Reader.+bodies.Goals as goal
 
 pub body-returns-in_err-alternatives : goal.body-returns-in_err-alternatives

@@ -1,4 +1,5 @@
 use Rattle.std.proofs.Common.{rules, ◌≡◌, [], ◌∷◌, ◌++◌, Err, refl, sym, ap, ◌∙◌, arith, append-nil}
+use Rattle.gr_reader.proofs.Steps.{pushed}
 use Rattle.gr_grammar.specs.Grammars.{tree_of, run_both, run_left, run_right, run_part, take_nothing, start, round, round_items}
 use Rattle.gr_grammar.proofs.Fronts.{no_longer}
 use Rattle.gr_grammar.proofs.Loops.{ended}
@@ -6,7 +7,7 @@ use Rattle.mg_reader.specs.Grammar.{system}
 use Rattle.mg_reader.specs.Values.{node_with, next_kid_of, kid_of}
 use Rattle.mg_reader.specs.Complaints.{property_list_bad, feature_list_bad, kid_list_bad, next_kid_bad}
 use Rattle.mg_syntax.specs.declared.block.Kid.{roll-Kid}
-use Rattle.mg_reader.proofs.Steps.{first_stops, then_stops, left_stops, part_stops, row_stops, memory_stops, shorter, below, pushed, row_value_by, noted, all_pushed, row_notes_by, kids_items, kids_notes}
+use Rattle.mg_reader.proofs.Steps.{first_stops, then_stops, left_stops, part_stops, row_stops, memory_stops, shorter, below, row_value_by, noted, all_pushed, row_notes_by, kids_items, kids_notes}
 use Rattle.mg_reader.proofs.reader.Reader.+nodes.Goals as goal
 
 pub node-returns-in_err-_word : goal.node-returns-in_err-_word

@@ -1,8 +1,9 @@
 use Rattle.std.proofs.Common.{rules, ◌≡◌, Err, refl, sym, ◌∙◌, append-nil}
+use Rattle.gr_reader.proofs.Steps.{pushed}
 use Rattle.gr_grammar.specs.Grammars.{tree_of, start, round, round_items}
 use Rattle.gr_grammar.proofs.Loops.{ended}
 use Rattle.mg_reader.specs.Complaints.{item_read}
-use Rattle.mg_reader.proofs.Steps.{row_stops, memory_stops, shorter, pushed}
+use Rattle.mg_reader.proofs.Steps.{row_stops, memory_stops, shorter}
 use Rattle.mg_reader.proofs.Keys.{counts_pushed, counts_fit, item_notes_pushed, items_value, items_complaints}
 use Rattle.mg_reader.proofs.reader.Reader.items.Goals as goal
 

@@ -1,9 +1,10 @@
 use Rattle.std.proofs.Common.{rules, ◌≡◌, [], ◌∷◌, ◌++◌, Err, refl, sym, ap, ◌∙◌, append-nil}
+use Rattle.gr_reader.proofs.Steps.{pushed}
 use Rattle.gr_grammar.specs.Grammars.{run_both, start, round, round_items}
 use Rattle.gr_grammar.proofs.Loops.{ended}
 use Rattle.mg_reader.specs.Values.{more_syn_item_of}
 use Rattle.mg_reader.specs.Complaints.{more_syn_item_bad}
-use Rattle.mg_reader.proofs.Steps.{first_stops, then_stops, row_stops, memory_stops, shorter, pushed, row_value, all_pushed, row_notes}
+use Rattle.mg_reader.proofs.Steps.{first_stops, then_stops, row_stops, memory_stops, shorter, row_value, all_pushed, row_notes}
 use Rattle.mg_reader.proofs.reader.Reader.syn_items.Goals as goal
 
 pub returns-in_err-first : goal.returns-in_err-first

@@ -12,3 +12,4 @@ pub mod Whole
 pub mod Heads
 pub mod Deciding
 pub mod OneForm
+pub mod OneTree

@@ -4,6 +4,7 @@ use Rattle.std.specs.List.{AllZip}
 use Rattle.std.proofs.Common.{inl, inr, ap, ap₂, sym, ◌∙◌, subst, arith}
 use Rattle.std.proofs.lemmas.Option.{none-some, same_Some, slice_get_within}
 use Rattle.std.proofs.lemmas.List.{length-map}
+use Rattle.gr_base.proofs.Zips.{labels-alike}
 use Rattle.gr_base.specs.Lists.{IsAmong, Each, InByteOrder, IsBefore, gathered}
 use Rattle.gr_base.specs.Forests.{Forest, empty, tree, labels, map_forest, numbered, size, AreAlike}
 use Rattle.gr_base.proofs.Counting.{IsBefore-irreflexive}
@@ -13,7 +14,6 @@ use Rattle.gr_terms.specs.Canonical.{Node, node_slots, Decorated, Literal, liter
 use Rattle.gr_terms.specs.Networks.{Term, name, Assertion, AreLinked, same, HasValue}
 use Rattle.td_tree.specs.TreeNetworks.{Part, own_part, top_part, bottom_part, TreeSlot, at_node, at_interface, slots_at, tree_network, slotted}
 use Rattle.td_tree.proofs.TreeNetworkLemmas.{list_of, IsPairAt, value_pair, pair_value, same_terms, labels-numbered, count_from}
-use Rattle.td_tree.proofs.SameForms.{labels_zip}
 use Rattle.td_check.specs.ModelTrees.{Beside, HaveAttributes, AreLists, of_node, of_interface, AreInLiterals, of_literal, StandsFor, in_list, in_literal, IsTreeOf, HasEachOnce}
 use Rattle.td_check.proofs.Telling.{OneOfThree, at_first, at_second, at_third, three_at}
 
@@ -66,6 +66,20 @@ label_once text (p ∷ ps) a v w order (inr i) (inl g) =
     (Each-at (λ t. IsBefore (text p.0) t) (map (λ p. text p.0) ps) (text a) order.0 (IsAmong-map (λ (p : ℕ × Label). text p.0) ps (a, v) i))))
 label_once text (p ∷ ps) a v w order (inr i) (inr j) = label_once text ps a v w order.1 i j
 
+-- ---- what stands for a term shows that the term is met
+
+module _ (N : List (Assertion ℕ ℕ)) (t : Decorated ℕ (Term ℕ)) (u : Decorated (List (ℕ × Term ℕ)) (Term ℕ)) where
+  slots_met : (s : ℕ) (pairs : List (ℕ × Term ℕ)) → AreLists t u s pairs → IsAmong (tree_slots t) s
+  slots_met s pairs (of_interface e g) = IsAmong-append_right (gathered node_slots (labels t.nodes)) (t.interface ∷ []) s (inl e)
+  slots_met s pairs (of_node n m b d) =
+      IsAmong-append_left (gathered node_slots (labels t.nodes)) (t.interface ∷ []) s
+      (IsAmong-gathered node_slots (labels t.nodes) n s (IsAmong-slice_get (labels t.nodes) b.0 n b.1) (IsAmong-slice_get (node_slots n) d.0 s d.1))
+
+  pub stands_met : (w x : Term ℕ) → StandsFor N t u w x → IsMet N t x
+  stands_met w x (in_list s pairs a lists among has) = inl (s, a, slots_met s pairs lists, has)
+  stands_met w x (in_literal (of_literal l k b d)) =
+      inr (IsAmong-gathered literal_terms t.literals l x (IsAmong-slice_get t.literals b.0 l b.1) (IsAmong-slice_get (literal_terms l) d.0 x d.1))
+
 -- ---- the two trees
 
 module _ (text : ℕ → List ℕ) (N : List (Assertion ℕ ℕ)) (t : Decorated ℕ (Term ℕ)) (u : Decorated (List (ℕ × Term ℕ)) (Term ℕ)) (c : Decorated Pairs Label)
@@ -91,7 +105,7 @@ module _ (text : ℕ → List ℕ) (N : List (Assertion ℕ ℕ)) (t : Decorated
 
   node_sided : (k : ℕ) (n : Node ℕ) (m : Node (List (ℕ × Term ℕ))) → slice_get (labels t.nodes) k ≡ Some n → slice_get (labels u.nodes) k ≡ Some m → IsBoth n (k, m)
   node_sided k n m e g =
-      zip_at IsBoth (labels t.nodes) (labels (numbered 0 u.nodes)) k n (k, m) (labels_zip IsBoth t.nodes (numbered 0 u.nodes) both_alike) e
+      zip_at IsBoth (labels t.nodes) (labels (numbered 0 u.nodes)) k n (k, m) (labels-alike IsBoth t.nodes (numbered 0 u.nodes) both_alike) e
       (ap (λ z. slice_get z k) (labels-numbered 0 u.nodes) ∙ counted_at 0 k k (labels u.nodes) m (omega arith) g)
 
   sided : (s : ℕ) (pairs : List (ℕ × Term ℕ)) → AreLists t u s pairs → Sided s pairs
@@ -144,12 +158,6 @@ module _ (text : ℕ → List ℕ) (N : List (Assertion ℕ ℕ)) (t : Decorated
     pub met : IsMet N t x
     pub found : IsMet M (slotted u) w
 
-  slots_met : (s : ℕ) (pairs : List (ℕ × Term ℕ)) → AreLists t u s pairs → IsAmong (tree_slots t) s
-  slots_met s pairs (of_interface e g) = IsAmong-append_right (gathered node_slots (labels t.nodes)) (t.interface ∷ []) s (inl e)
-  slots_met s pairs (of_node n m b d) =
-      IsAmong-append_left (gathered node_slots (labels t.nodes)) (t.interface ∷ []) s
-      (IsAmong-gathered node_slots (labels t.nodes) n s (IsAmong-slice_get (labels t.nodes) b.0 n b.1) (IsAmong-slice_get (node_slots n) d.0 s d.1))
-
   slotted_labels : labels (slotted u).nodes ≡ map (λ (q : ℕ × Node (List (ℕ × Term ℕ))). slots_at q.0) (count_from 0 (labels u.nodes))
   slotted_labels = labels-map (λ (q : ℕ × Node (List (ℕ × Term ℕ))). slots_at q.0) (numbered 0 u.nodes) ∙ ap (λ z. map (λ (q : ℕ × Node (List (ℕ × Term ℕ))). slots_at q.0) z) (labels-numbered 0 u.nodes)
 
@@ -179,7 +187,7 @@ module _ (text : ℕ → List ℕ) (N : List (Assertion ℕ ℕ)) (t : Decorated
       let its = (r.right.pairs a (two.label w)).1 (w, value, refl) in
       record {
         labels_are = label_once text r.form a (one.label x) (two.label w) r.left.order mine its;
-        met = inl (s, a, slots_met s pairs lists, has);
+        met = stands_met N t u w x (in_list s pairs a lists among has);
         found = inl (r.slot, a, pair_met r.slot (a, w) at, value);
       }
   matched w x (in_literal (of_literal l k b d)) =
@@ -190,7 +198,7 @@ module _ (text : ℕ → List ℕ) (N : List (Assertion ℕ ℕ)) (t : Decorated
       record {
         labels_are = same_Some (one.label x) (two.label w)
             (sym (slice_get-mapped one.label (literal_terms l) d.0 x d.1) ∙ ap (λ (z : Literal Label). slice_get (literal_terms z) d.0) same ∙ slice_get-mapped two.label (literal_terms k) d.0 w d.2);
-        met = inr (IsAmong-gathered literal_terms t.literals l x (IsAmong-slice_get t.literals i l b.1) (IsAmong-slice_get (literal_terms l) d.0 x d.1));
+        met = stands_met N t u w x (in_literal (of_literal l k b d));
         found = inr (IsAmong-gathered literal_terms u.literals k w (IsAmong-slice_get u.literals i k b.2) (IsAmong-slice_get (literal_terms k) d.0 w d.2));
       }
 

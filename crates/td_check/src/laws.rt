@@ -22,3 +22,12 @@ pub fn one_form_one_tree()
         → IsCanonicalForm text N t c → IsCanonicalForm text (tree_network u) (slotted u) c
         → IsTreeOf N t u }
 {}
+
+/// And the other way round: where a tree is that of a network, each canonical form of it is one of the
+/// network's tree. So the two have the same forms, which are one form at most.
+pub fn one_tree_one_form()
+    ensures { (text : ℕ → List ℕ) (N : List (net.Assertion ℕ ℕ)) (t : Decorated ℕ (net.Term ℕ))
+        (u : Decorated (List (ℕ × net.Term ℕ)) (net.Term ℕ)) (c : Decorated Pairs Label) → HasEachOnce u
+        → IsTreeOf N t u → IsCanonicalForm text (tree_network u) (slotted u) c
+        → IsCanonicalForm text N t c }
+{}

@@ -26,10 +26,10 @@ use Rattle.td_tree.specs.TreeNetworks.{Part, own_part, top_part, bottom_part, Tr
 use Rattle.td_tree.specs.TreeViews.{Pairs, decorated_of, lists_of}
 use Rattle.td_tree.specs.declared.Tree.{Tree}
 use Rattle.td_tree.proofs.TreeNetworkLemmas.{IsPairAt, list_of, pair_value, same_terms, value_pair}
+use Rattle.td_tree.proofs.SameForms.{carried_form, gathered_answer, zip_answer}
 use Rattle.td_model.specs.CanonicalTrees.{HasBags, StandsForLiteral, IsCanonicalTree}
 use Rattle.td_tree.specs.Forms.{HaveSameValues, AreSameNodes, AreSameLiterals, AreSameTrees}
 use Rattle.td_model.proofs.LeastTerms.{least_term, least_stands}
-use Rattle.td_tree.proofs.SameForms.{carried_form, gathered_answer, zip_answer}
 
 -- ---- lists and forests the other way round
 

@@ -1,12 +1,12 @@
 -- A canonical form goes from a tree over one network to a tree over another one, where the trees answer each other.
-use Rattle.std.specs.Prelude.{◌≡◌, ℕ, List, [], ◌∷◌, map, refl}
+use Rattle.std.specs.Prelude.{◌≡◌, ℕ, zero, suc, ◌+◌, List, [], ◌∷◌, ◌++◌, map, length, slice_get, Some, ⊤, refl}
 use Rattle.std.specs.List.{AllZip}
-use Rattle.std.proofs.Common.{inl, inr, ap₂, sym, ◌∙◌, subst}
-use Rattle.gr_base.specs.Lists.{IsAmong, gathered}
-use Rattle.gr_base.specs.Forests.{labels}
-use Rattle.gr_base.proofs.ForestLemmas.{AreAlike-through}
-use Rattle.gr_base.proofs.ListLemmas.{IsAmong-append, IsAmong-append_left, IsAmong-append_right}
+use Rattle.std.proofs.Common.{inl, inr, ap, ap₂, sym, ◌∙◌, subst, arith}
 use Rattle.gr_base.proofs.Zips.{labels-alike}
+use Rattle.gr_base.specs.Lists.{IsAmong, gathered}
+use Rattle.gr_base.specs.Forests.{Forest, empty, tree, labels, map_forest, numbered, size, AreAlike}
+use Rattle.gr_base.proofs.ForestLemmas.{AreAlike-through, length-labels, size-alike}
+use Rattle.gr_base.proofs.ListLemmas.{IsAmong-append, IsAmong-append_left, IsAmong-append_right, slice_get-append_left, slice_get-append_right}
 use Rattle.gr_terms.specs.Canonical.{Decorated, Label, Literal, Node, Pairs, node_slots, tree_slots, literal_terms, map_literal, IsExact, IsMet, IsCanonicalForm, ListsNode, ListsSlot}
 use Rattle.gr_terms.specs.Networks.{Term, Assertion, AreLinked, back, next}
 use Rattle.td_tree.specs.Forms.{HaveSameValues, AreSameNodes, AreSameLiterals, AreSameTrees}
@@ -35,6 +35,41 @@ same_maps f g Q one [] [] h = refl
 same_maps f g Q one [] (y ∷ ys) h = absurd h
 same_maps f g Q one (x ∷ xs) [] h = absurd h
 same_maps f g Q one (x ∷ xs) (y ∷ ys) h = ap₂ (λ z zs. z ∷ zs) (one x y h.0) (same_maps f g Q one xs ys h.1)
+
+-- lists of one length answer each other where the elements at each place do
+pub zip_at_places : {A B : Type 0} (R : A → B → Type 0) (xs : List A) (ys : List B) → length xs ≡ length ys
+    → ((i : ℕ) (x : A) (y : B) → slice_get xs i ≡ Some x → slice_get ys i ≡ Some y → R x y) → AllZip R xs ys
+zip_at_places R [] [] e at = tt
+zip_at_places R [] (y ∷ ys) e at = absurd (omega (arith, e))
+zip_at_places R (x ∷ xs) [] e at = absurd (omega (arith, e))
+zip_at_places R (x ∷ xs) (y ∷ ys) e at = (at zero x y refl refl, zip_at_places R xs ys (omega (arith, e)) (λ i z w f g. at (suc i) z w f g))
+
+-- ---- forests whose nodes answer each other
+
+pub alike_map : {A B C : Type 0} (R : A → C → Type 0) (h : B → C) (f : Forest A) (g : Forest B) → AreAlike (λ a b. R a (h b)) f g → AreAlike R f (map_forest h g)
+alike_map R h empty empty e = tt
+alike_map R h empty (tree b others rest) e = absurd e
+alike_map R h (tree a kids more) empty e = absurd e
+alike_map R h (tree a kids more) (tree b others rest) e = (e.0, alike_map R h kids others e.1, alike_map R h more rest e.2)
+
+-- a forest and one of the same shape with numbers, where each label answers the one with its number
+pub alike_numbered : {A B : Type 0} (R : A → ℕ × B → Type 0) (n : ℕ) (f : Forest A) (g : Forest B) → AreAlike (λ a b. ⊤) f g
+    → ((i k : ℕ) (a : A) (b : B) → k ≡ n + i → slice_get (labels f) i ≡ Some a → slice_get (labels g) i ≡ Some b → R a (k, b)) → AreAlike R f (numbered n g)
+alike_numbered R n empty empty h at = tt
+alike_numbered R n empty (tree b others rest) h at = absurd h
+alike_numbered R n (tree a kids more) empty h at = absurd h
+alike_numbered {A} {B} R n (tree a kids more) (tree b others rest) h at =
+    let under : length (labels kids) ≡ size others = length-labels kids ∙ size-alike (λ (a : A) (b : B). ⊤) kids others h.1 in
+    let beside : length (labels others) ≡ size others = length-labels others in
+    let same_length : length (labels others) ≡ length (labels kids) = beside ∙ sym under in (
+      at zero n a b (omega arith) refl refl,
+      alike_numbered R (suc n) kids others h.1
+          (λ i k x y e f g. at (suc i) k x y (omega arith) (slice_get-append_left (labels kids) (labels more) i x f) (slice_get-append_left (labels others) (labels rest) i y g)),
+      alike_numbered R (suc n + size others) more rest h.2
+          (λ i k x y e f g.
+              at (suc (length (labels kids) + i)) k x y (omega arith) (slice_get-append_right (labels kids) (labels more) i ∙ f)
+                  (ap (λ m. slice_get (labels others ++ labels rest) (m + i)) (sym same_length) ∙ slice_get-append_right (labels others) (labels rest) i ∙ g)),
+    )
 
 module _ {V S W R : Type 0} (text : ℕ → List ℕ) (N : List (Assertion V S)) (M : List (Assertion W R)) (there : Term V → Term W)
     (t : Decorated S (Term V)) (u : Decorated R (Term W)) (c : Decorated Pairs Label) (answers : AreSameTrees N M there t u) (form : IsCanonicalForm text M u c) where

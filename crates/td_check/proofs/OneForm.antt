@@ -1,5 +1,5 @@
 -- A tree that has a canonical form of a tree over a network is that tree.
-use Rattle.std.specs.Prelude.{◌≡◌, ℕ, zero, suc, ◌+◌, ◌<◌, List, [], ◌∷◌, ◌++◌, map, length, slice_get, ◌⊎◌, ◌↔◌, ⊤, Some, refl}
+use Rattle.std.specs.Prelude.{◌≡◌, ℕ, zero, suc, ◌+◌, List, [], ◌∷◌, map, length, slice_get, ⊤, Some, refl}
 use Rattle.std.specs.List.{AllZip}
 use Rattle.std.proofs.Common.{inl, inr, ap, ap₂, sym, ◌∙◌, subst, arith}
 use Rattle.std.proofs.lemmas.Option.{none-some, same_Some, slice_get_within}
@@ -11,7 +11,7 @@ use Rattle.gr_base.proofs.Counting.{IsBefore-irreflexive}
 use Rattle.gr_base.proofs.ListLemmas.{Each-at, IsAmong-map, IsAmong-slice_get, IsAmong-append_left, IsAmong-append_right, IsAmong-gathered, slice_get-mapped}
 use Rattle.gr_base.proofs.ForestLemmas.{labels-map}
 use Rattle.gr_terms.specs.Canonical.{Node, node_slots, Decorated, Literal, literal_terms, map_literal, Label, Pairs, IsMet, ListsSlot, ListsNode, IsCanonicalForm, tree_slots}
-use Rattle.gr_terms.specs.Networks.{Term, name, Assertion, AreLinked, same, HasValue}
+use Rattle.gr_terms.specs.Networks.{Term, name, Assertion, AreLinked, same}
 use Rattle.td_tree.specs.TreeNetworks.{Part, own_part, top_part, bottom_part, TreeSlot, at_node, at_interface, slots_at, tree_network, slotted}
 use Rattle.td_tree.proofs.TreeNetworkLemmas.{list_of, IsPairAt, value_pair, pair_value, same_terms, labels-numbered, count_from}
 use Rattle.td_check.specs.ModelTrees.{Beside, HaveAttributes, AreLists, of_node, of_interface, AreInLiterals, of_literal, StandsFor, in_list, in_literal, IsTreeOf, HasEachOnce}

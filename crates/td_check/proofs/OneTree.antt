@@ -1,5 +1,5 @@
--- The tree of a network has each canonical form that the tree with lists has that is this tree.
-use Rattle.std.specs.Prelude.{◌≡◌, ℕ, zero, suc, ◌+◌, List, [], ◌∷◌, ◌++◌, map, length, slice_get, ◌⊎◌, Some, refl}
+-- The tree of a network has each canonical form of a tree with lists that is this tree.
+use Rattle.std.specs.Prelude.{◌≡◌, ℕ, suc, List, [], ◌∷◌, length, slice_get, ◌⊎◌, Some, refl}
 use Rattle.std.specs.List.{AllZip}
 use Rattle.std.proofs.Common.{inl, inr, ap, sym, ◌∙◌, subst, arith}
 use Rattle.std.proofs.lemmas.Option.{same_Some}
@@ -11,7 +11,7 @@ use Rattle.gr_base.proofs.Deciding.{decided_both, decided_by, decided_either, de
 use Rattle.gr_base.proofs.ForestLemmas.{AreAlike-weaker}
 use Rattle.gr_base.proofs.ListLemmas.{IsAmong-append}
 use Rattle.gr_terms.specs.Canonical.{Node, node_slots, Decorated, Literal, literal_terms, Label, Pairs, IsMet, IsCanonicalForm, tree_slots}
-use Rattle.gr_terms.specs.Networks.{Term, name, Assertion, entry, equate, link, AreLinked, AreLinkedSlots, same, back, next, HasValue}
+use Rattle.gr_terms.specs.Networks.{Term, name, Assertion, entry, equate, link, AreLinked, AreLinkedSlots, same, back, next}
 use Rattle.gr_terms.proofs.Agreeing.{decided_linked, decided_slots}
 use Rattle.td_tree.specs.Forms.{HaveSameValues, AreSameNodes, AreSameLiterals, AreSameTrees}
 use Rattle.td_tree.specs.TreeNetworks.{Part, own_part, top_part, bottom_part, TreeSlot, at_node, at_interface, slots_at, tree_network, slotted}
@@ -62,9 +62,9 @@ module _ (N : List (Assertion ℕ ℕ)) (t : Decorated ℕ (Term ℕ)) (u : Deco
   literals_placed : AllZip AreBeside t.literals u.literals
   literals_placed = zip_at_places AreBeside t.literals u.literals (sym (length_map count t.literals) ∙ ap length is.literals ∙ length_map count u.literals)
       (λ i l k e g.
-          let arguments : length l.args ≡ length k.args =
-          same_Some (length l.args) (length k.args) (sym (at_map count t.literals i l e) ∙ ap (λ z. slice_get z i) is.literals ∙ at_map count u.literals i k g) in
-          zip_at_places (AreInLiterals t u) (literal_terms l) (literal_terms k) (ap (λ n. suc (suc n)) arguments) (λ j x w p q. of_literal l k (i, e, g) (j, p, q)))
+      let arguments : length l.args ≡ length k.args =
+      same_Some (length l.args) (length k.args) (sym (at_map count t.literals i l e) ∙ ap (λ z. slice_get z i) is.literals ∙ at_map count u.literals i k g) in
+      zip_at_places (AreInLiterals t u) (literal_terms l) (literal_terms k) (ap (λ n. suc (suc n)) arguments) (λ j x w p q. of_literal l k (i, e, g) (j, p, q)))
     where
       count : Literal (Term ℕ) → ℕ
       count l = length l.args

@@ -23,8 +23,8 @@ pub fn one_form_one_tree()
         → IsTreeOf N t u }
 {}
 
-/// And the other way round: where a tree is that of a network, each canonical form of it is one of the
-/// network's tree. So the two have the same forms, which are one form at most.
+/// And the other way round: where a tree is that of a network, as the checker understands it, the
+/// network's tree has each canonical form that the tree has.
 pub fn one_tree_one_form()
     ensures { (text : ℕ → List ℕ) (N : List (net.Assertion ℕ ℕ)) (t : Decorated ℕ (net.Term ℕ))
         (u : Decorated (List (ℕ × net.Term ℕ)) (net.Term ℕ)) (c : Decorated Pairs Label) → HasEachOnce u

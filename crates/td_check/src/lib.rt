@@ -20,8 +20,8 @@
 //!
 //! - [`is_minimal_model`] says exactly whether the map makes the tree a minimal model. It takes no
 //!   memory, since it works in spare room of a store that it is lent, and leaves the store as it was.
-//! - [`laws`]: such a map names each node of the tree and no other number; and a tree that has a
-//!   canonical form of the model's tree is the model's tree.
+//! - [`laws`]: such a map names each node of the tree and no other number; a tree that has a canonical
+//!   form of the model's tree is the model's tree, and a tree that is has only forms of the model's.
 //! - It is for users and tests, and for whoever writes another search for models.
 //!
 //! # How it works

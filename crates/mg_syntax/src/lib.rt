@@ -5,6 +5,8 @@
 //! - A name is its number, a [`Sym`]. No text, no place and no token stands here.
 //! - All lists are seen as lists: [`Row`] is the list type of this crate, which may hold the type
 //!   that it stands in, and `Syms` that of `gr_terms`. A contract sees each value as it is.
+//! - `specs/Names` lists all names that stand in a metagrammar, and says of a table that it has a
+//!   text for each.
 //! - Nothing is sorted or left out: a [`Bag`] has its pairs in the order of the text, and so have
 //!   the lists of a class, a body and a node block.
 //!

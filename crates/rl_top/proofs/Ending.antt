@@ -1,5 +1,5 @@
 -- What is right for the words of a run.
-use Rattle.std.specs.Prelude.{◌≡◌, ℕ, ◌+◌, ◌<◌, ◌≤◌, List, [], ◌∷◌, ◌++◌, length, take, drop, ◌-◌, Option, Some, None, Result, Ok, Err, IfOk, ◌⊎◌, refl, codes, string_bytes}
+use Rattle.std.specs.Prelude.{◌≡◌, ℕ, ◌<◌, List, [], ◌∷◌, length, take, drop, ◌-◌, Option, Some, None, Result, Ok, Err, IfOk, refl, codes, string_bytes}
 use Rattle.std.specs.Str.Parse.{digits_value}
 use Rattle.std.proofs.Common.{ap, sym, ◌∙◌, subst, arith, inl, inr, length-take}
 use Rattle.std.proofs.lemmas.Bool.{cases_lt}

@@ -1,9 +1,9 @@
 -- The names of a refusal are names of the metagrammar.
-use Rattle.std.specs.Prelude.{◌≡◌, ℕ, ◌<◌, List, [], ◌∷◌, ◌++◌, map, Option, Some, None, Bool, true, false, ◌==◌, not, if◌then◌else◌, codes, length, ◌⊎◌}
+use Rattle.std.specs.Prelude.{◌≡◌, ℕ, ◌<◌, List, [], ◌∷◌, ◌++◌, Option, Some, None, Bool, true, false, ◌==◌, not, if◌then◌else◌, length, ◌⊎◌}
 use Rattle.std.specs.List.{filter}
-use Rattle.std.proofs.Common.{subst, sym, ◌∙◌, ap, inl, inr, refl}
+use Rattle.std.proofs.Common.{subst, sym, inl, inr, refl}
 use Rattle.gr_base.specs.Lists.{Each, IsAmong, gathered}
-use Rattle.gr_base.proofs.ListLemmas.{Each-left, Each-right, Each-append, Each-at, Each-map, IsAmong-append_right, IsAmong-append_left}
+use Rattle.gr_base.proofs.ListLemmas.{Each-left, Each-right, Each-append, Each-at, Each-map, IsAmong-append_right}
 use Rattle.gr_terms.specs.declared.Sym.{Sym}
 use Rattle.mg_syntax.specs.declared.body.Ref.{Ref}
 use Rattle.mg_syntax.specs.declared.item.Class.{Class}

@@ -1,5 +1,5 @@
 -- Where each name of a body has a text, so has each name in the uses of its variables and classes.
-use Rattle.std.specs.Prelude.{◌≡◌, ℕ, ◌<◌, List, [], ◌∷◌, ◌++◌, map, Option, Some, None, Bool, true, false, not, if◌then◌else◌}
+use Rattle.std.specs.Prelude.{ℕ, ◌<◌, List, [], ◌∷◌, ◌++◌, map, Option, Some, None, Bool, true, false, not, if◌then◌else◌}
 use Rattle.std.specs.List.{filter}
 use Rattle.std.proofs.Common.{refl, subst, sym, ◌∙◌}
 use Rattle.gr_base.specs.Lists.{Each, gathered, joined}

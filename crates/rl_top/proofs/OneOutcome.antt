@@ -1,9 +1,9 @@
 -- At most one outcome is right for the bytes of a file, as far as the budget is enough.
-use Rattle.std.specs.Prelude.{◌≡◌, ℕ, ◌<◌, ◌≤◌, List, [], ◌∷◌, ◌++◌, Bool, true, false, Option, Some, None, Result, Ok, Err, ◌⊎◌, length, slice_get, refl}
+use Rattle.std.specs.Prelude.{◌≡◌, ℕ, List, [], ◌∷◌, ◌++◌, false, Result, Ok, Err, length, refl}
 use Rattle.std.specs.List.{AllZip}
 use Rattle.std.proofs.Common.{sym, ap, ap₂, subst, ◌∙◌, arith, inl, inr}
 use Rattle.std.proofs.lemmas.Bool.{cases_lt}
-use Rattle.gr_base.specs.Lists.{IsAmong, Each, NoneTwice}
+use Rattle.gr_base.specs.Lists.{Each, NoneTwice}
 use Rattle.gr_base.proofs.ListLemmas.{Each-at}
 use Rattle.gr_symbols.specs.Numbers.{first_texts}
 use Rattle.gr_symbols.proofs.FirstTexts.{NoneTwice-first_texts}
@@ -12,7 +12,7 @@ use Rattle.gr_text.specs.Limits.{byte_limit}
 use Rattle.gr_tokens.specs.declared.ReadRefusal.{ReadRefusal}
 use Rattle.gr_tokens.specs.declared.ReadRefusal.TheVariants as reading
 use Rattle.mg_syntax.specs.declared.item.Item.{Item}
-use Rattle.mg_reader.specs.Answers.{IsMetagrammar, IsRefusal}
+use Rattle.mg_reader.specs.Answers.{IsMetagrammar}
 use Rattle.mg_scope.specs.Classes.{valued_classes}
 use Rattle.mg_scope.specs.Faults.{IsScoped, IsFirstFault}
 use Rattle.mg_scope.proofs.AnswerLaws.{one_fault, no_fault}

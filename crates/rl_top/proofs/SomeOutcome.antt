@@ -11,7 +11,6 @@ use Rattle.gr_text.proofs.WordLemmas.{IsBareWord-settled}
 use Rattle.gr_symbols.specs.Numbers.{Grows, first_texts}
 use Rattle.gr_terms.specs.declared.Sym.{Sym}
 use Rattle.gr_tokens.specs.declared.ReadRefusal.{ReadRefusal}
-use Rattle.gr_tokens.specs.declared.ReadRefusal.TheVariants as reading
 use Rattle.mg_syntax.specs.declared.body.Ref.{Ref}
 use Rattle.mg_syntax.specs.declared.item.Class.{Class}
 use Rattle.mg_syntax.specs.declared.item.Item.{Item}

@@ -2,10 +2,9 @@
 use Rattle.std.specs.Prelude.{◌≡◌, ℕ, zero, suc, ◌+◌, ◌<◌, ◌≤◌, List, [], ◌∷◌, ◌++◌, map, take, drop, length, Some, Bool, true, false, ◌⊎◌, ⊤, slice_get, get_or, refl}
 use Rattle.std.specs.List.{AllZip}
 use Rattle.std.proofs.Common.{sym, ap, subst, ◌∙◌, arith, inl, inr}
-use Rattle.std.proofs.lemmas.List.{take_all, take-append-drop}
+use Rattle.std.proofs.lemmas.List.{take_all}
 use Rattle.std.proofs.lemmas.Slice.Zip.{all_zipped_more}
-use Rattle.std.proofs.Math.Seq.{drop-cons}
-use Rattle.gr_base.specs.Lists.{IsAmong, Each, NoneTwice}
+use Rattle.gr_base.specs.Lists.{IsAmong, Each}
 use Rattle.gr_base.proofs.ListLemmas.{Each-at, Each-map, IsAmong-get_or, IsAmong-map}
 use Rattle.gr_symbols.specs.Numbers.{Names, Grows, first_texts}
 use Rattle.gr_symbols.proofs.NumberLemmas.{Names-within, Grows-refl}
@@ -40,11 +39,9 @@ use Rattle.rl_top.specs.Stops.{Stops}
 use Rattle.rl_top.specs.declared.refusals.Stop.{Stop}
 use Rattle.rl_top.specs.declared.refusals.Stop.TheVariants as stop
 use Rattle.rl_top.specs.Compiling.{IsCompiled, IsRefusedFile}
-use Rattle.rl_top.specs.Outcomes.{IsNumbering, IsGood, HasNoFault, IsFirstClassFault, IsFirstRefusal, too_long, unread, unscoped, uncompiled, IsClassText, AreClassTexts, IsEnding, whole, shorter}
+use Rattle.rl_top.specs.Outcomes.{IsNumbering, IsGood, HasNoFault, IsFirstClassFault, too_long, unread, unscoped, uncompiled, IsClassText, AreClassTexts, IsEnding, whole, shorter}
 use Rattle.rl_top.proofs.FaultNames.{valued_each, valued_has, scope_has}
 use Rattle.rl_top.specs.declared.status.Status.TheVariants as status
-use Rattle.rl_top.proofs.Laws.{TextsApart}
-use Rattle.rl_top.proofs.OneOutcome.{texts_apart}
 
 pub stops_for : (M : Type 0) (P Q : Refusal → Type 0) (s : Stop) → ((r : Refusal) → P r → Q r) → Stops M P s → Stops ⊤ Q s
 stops_for M P Q (stop.Refused r) step h = step r h

@@ -1,5 +1,5 @@
 -- Which status and which text are right for a run, from the bytes of its file on.
-use Rattle.std.specs.Prelude.{◌≡◌, ℕ, ◌<◌, ◌≤◌, List, [], ◌∷◌, ◌++◌, length, Bool, true, false, Option, Some, None, ⊤}
+use Rattle.std.specs.Prelude.{◌≡◌, ℕ, ◌<◌, ◌≤◌, List, [], ◌∷◌, ◌++◌, length, true, false, Option, Some, None, ⊤}
 use Rattle.std.specs.List.{AllZip}
 use Rattle.gr_base.specs.Lists.{IsAmong, Each}
 use Rattle.gr_io.specs.Outside.{appended}

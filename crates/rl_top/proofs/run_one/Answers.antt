@@ -1,4 +1,4 @@
-use Rattle.std.proofs.Common.{◌≡◌, ◌∙◌, sym, ap, subst, take, drop, string_bytes}
+use Rattle.std.proofs.Common.{◌∙◌, sym, ap, subst, take, drop, string_bytes}
 use Rattle.std.proofs.lemmas.List.{take-append-drop}
 use Rattle.gr_io.specs.Outside.{appended}
 use Rattle.rl_top.specs.Outcomes.{IsOutcome, IsRight}

@@ -1,4 +1,4 @@
-use Rattle.std.proofs.Common.{◌≡◌, Err, ℕ, ◌<◌, length, rules, refl}
+use Rattle.std.proofs.Common.{◌≡◌, Err, ◌<◌, length, rules, refl}
 use Rattle.gr_terms.specs.declared.Sym.{Sym}
 use Rattle.mg_scope.specs.Faults.{IsThere}
 use Rattle.rl_top.proofs.FaultNames.{valued_has}

@@ -20,6 +20,14 @@ const FIRST_ROOM: Room = Room {
     assertions: 32,
 };
 
+/// The room of a new store that is for equations of variables.
+const ROOM_OF_EQUATIONS: Room = Room {
+    vars: 16,
+    slots: 1,
+    entries: 1,
+    assertions: 8,
+};
+
 /// Assertions that agree. Contracts see the numbers of variables and slots made and the accepted
 /// assertions.
 #[derive(Drop)]
@@ -47,6 +55,18 @@ impl Ledger {
         ensures { IfOk result (λ l. l ≡ record { vars = 0; slots = 0; accepted = [] }) }
     {
         let store = Store::with_room(alloc, FIRST_ROOM)?;
+        Ok(Ledger {
+            store,
+            list: Vec::with_capacity(alloc, FIRST_ROOM.assertions as usize)?,
+        })
+    }
+
+    /// No assertion, with no variable and no slot. It begins with less room, for a few equations of
+    /// variables.
+    pub fn of_equations(alloc: Global) -> Result<Ledger, Memory>
+        ensures { IfOk result (λ l. l ≡ record { vars = 0; slots = 0; accepted = [] }) }
+    {
+        let store = Store::with_room(alloc, ROOM_OF_EQUATIONS)?;
         Ok(Ledger {
             store,
             list: Vec::new(alloc),

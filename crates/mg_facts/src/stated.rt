@@ -22,6 +22,9 @@ use gr_terms::{Assertion, Term};
 use std::alloc::Global;
 use std::marker::Model;
 
+/// For how many facts there is room at first.
+const FIRST_FACTS: usize = 16;
+
 /// Facts of numbered variables. Contracts see the variables and the facts.
 #[derive(Drop)]
 pub struct Stated {
@@ -56,12 +59,12 @@ impl Stated {
     {
         let mut network = Ledger::new(alloc)?;
         network.slot()?;
-        let classes = Ledger::new(alloc)?;
+        let classes = Ledger::of_equations(alloc)?;
         Ok(Stated {
             names: Names::new(alloc),
             used: 0,
-            facts: Vec::new(alloc),
-            past: Vec::new(alloc),
+            facts: Vec::with_capacity(alloc, FIRST_FACTS)?,
+            past: Vec::with_capacity(alloc, FIRST_FACTS)?,
             network,
             fed: 0,
             classes,

@@ -24,6 +24,10 @@
 //!   200 open ones, the reader goes over those, and `proofs/Files` turns how its run ends into
 //!   `IsFileAnswer` of `specs/Files`: a text without complaints and its value, the place where it
 //!   breaks off, or the first complaint.
+//! - Where the grammar of a file has no numbered parts and opens no bracket too deep, its reader goes
+//!   over all tokens and ends by [`whole::whole_file`]: what is left, a stop or the first complaint
+//!   becomes the refusal. `whole_answer` of `proofs/WholeFiles` makes `IsFileAnswer` of that, and
+//!   `answer_map` and `answer_has` what the reader says of it.
 //! - A front of the tokens, as a bag in the middle of a file: `IsFrontReading` of `specs/Fronts`,
 //!   given by a run (`front_took` and `front_failed` of `proofs/Fronts`), and given back as a run
 //!   to the reader around it (`front_run`, `no_front_run`).

@@ -110,8 +110,8 @@ module _ (bytes : List ℕ) (tokens : List Token) (old texts : List (List ℕ)) 
         (reads_map flat inputs_text (λ ts rest m is. found b c ts rest m is × put ts rest) all rest
         (λ ts rest m is. (d ≡ all_noted None (bad ts rest m)) × right ts rest m is) read
         (λ m is k.
-          let f = k.0 texts (Grows-refl texts) once in
-          (all_of b c d rest m none note f.0, (f.1, k.1 texts (Grows-refl texts) once)))
+        let f = k.0 texts (Grows-refl texts) once in
+        (all_of b c d rest m none note f.0, (f.1, k.1 texts (Grows-refl texts) once)))
         (reads_and flat inputs_text (found b c) all rest put read r p))
         e
 

@@ -1,8 +1,14 @@
 -- Lists whose keys rise: their parts, one element more or less, and that such a list is fixed by its members.
-use Rattle.std.specs.Prelude.{◌≡◌, ℕ, zero, suc, ◌<◌, List, [], ◌∷◌, ◌++◌, map, length, take, drop, refl}
+use Rattle.std.specs.Prelude.{◌≡◌, ℕ, zero, suc, ◌<◌, ◌≤◌, List, [], ◌∷◌, ◌++◌, map, length, take, drop, slice_index_or, refl}
 use Rattle.std.proofs.Common.{inl, inr, ap, ap₂, sym, ◌∙◌, subst, get_or, arith}
-use Rattle.gr_base.specs.Lists.{IsAmong, IsWithin, Each, IsRising}
+use Rattle.std.specs.List.Sorted.{IsNonDecreasingBy}
+use Rattle.gr_base.specs.Lists.{IsAmong, IsWithin, Each, NoneTwice, IsRising}
+use Rattle.std.proofs.lemmas.Bool.{cases_lt}
 use Rattle.gr_base.proofs.ListLemmas.{IsAmong-get_or, Each-at, Each-left, Each-middle, Each-without, Each-map, Each-map_from}
+
+-- a number that is no greater and another one is lower
+nat_below : (m n : ℕ) → m ≤ n → (m ≡ n → ⊥) → m < n
+nat_below m n le other = elim (cases_lt m n) [ inl l ↦ l | inr g ↦ absurd (other (omega (arith, le, g))) ]
 
 -- in a list whose keys rise, all from a place on have higher keys than what is below the key at that place
 module _ {A : Type 0} (key : A → ℕ) where
@@ -91,3 +97,18 @@ module _ {A : Type 0} (key : A → ℕ) where
       (IsRising-unique xs ys a.1 b.1
       (rising_tail x xs ys a (subst (λ z. IsWithin (x ∷ xs) (z ∷ ys)) (sym e) f))
       (rising_tail y ys xs b (subst (λ z. IsWithin (y ∷ ys) (z ∷ xs)) e g)))
+
+  -- the keys rise where none falls and none stands twice
+  pub IsRising-once : (xs : List A) → IsNonDecreasingBy key xs → NoneTwice (map key xs) → IsRising (map key xs)
+  IsRising-once [] up once = tt
+  IsRising-once (x ∷ xs) up once = (
+    behind xs (λ j d within. up zero (suc j) d (omega arith) (omega arith)) once.0,
+    IsRising-once xs (λ i j d le within. up (suc i) (suc j) d (omega arith) (omega arith)) once.1,
+  )
+    where
+      behind : (ys : List A) → ((j : ℕ) (d : A) → j < length ys → key x ≤ key (slice_index_or ys j d)) → (IsAmong (map key ys) (key x) → ⊥) → Each (λ n. key x < n) (map key ys)
+      behind [] up new = tt
+      behind (y ∷ ys) up new =
+          let le : key x ≤ key y = up zero y (omega arith) in
+          let other : key x ≡ key y → ⊥ = λ e. new (inl e) in
+          (nat_below (key x) (key y) le other, behind ys (λ j d within. up (suc j) d (omega arith)) (λ i. new (inr i)))

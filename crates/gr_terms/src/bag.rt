@@ -48,6 +48,17 @@ impl Bag {
         }
     }
 
+    /// The bag of pairs by rising attribute, made in one go. Up to two pairs take no memory.
+    pub fn from_sorted(alloc: Global, pairs: &[(Sym, Term)]) -> Result<Bag, Memory>
+        requires { IsListed pairs.now }
+        ensures pairs { IfOk result (λ bag. bag ≡ pairs.now) }
+        ensures small { length pairs.now ≤ 2 → IsOk result }
+    {
+        Ok(Bag {
+            pairs: SmallVec::from_slice(alloc, pairs)?,
+        })
+    }
+
     /// Puts a pair in, and says `false`, with the bag unchanged, where the attribute is there
     /// already. Without memory the bag stays as it was: that may only be where the attribute is new
     /// and two pairs or more are there.

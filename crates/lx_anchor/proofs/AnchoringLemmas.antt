@@ -30,13 +30,14 @@ use Rattle.tg_grammar.specs.Marks.{is_marked, marked, node_lists}
 use Rattle.tg_grammar.specs.Shapes.{IsWellFormedTree}
 use Rattle.lx_lexicon.specs.declared.entry.Entry.{Entry}
 use Rattle.tg_grammar.specs.NamedMarks.{HasNamedMarks}
+use Rattle.tg_model.specs.DenseTrees.{IsDense}
 use Rattle.tg_model.specs.LexicalTrees.{IsLexical}
 use Rattle.tg_model.specs.declared.lexical.LexicalTree.{LexicalTree}
 use Rattle.lx_anchor.specs.Anchoring.{AreLemmas, HasLiteral, IsAnchorRefusal, IsGiven, IsLexicalTree, Makes, co_leaves}
 use Rattle.lx_anchor.specs.Counts.{HasFewFeatures, IsEntryBelow, IsLiteralBelow}
 use Rattle.lx_anchor.specs.Networks.{anchored_network, anchored_tree, entry_term, tree_term}
 use Rattle.lx_anchor.specs.TreesOver.{IsTreeOver}
-use Rattle.lx_anchor.specs.Rows.{AreDone, IsAnchoredTree, IsBarePair, IsFamily, IsFound, IsRefused}
+use Rattle.lx_anchor.specs.Rows.{AreDone, IsAnchored, IsBarePair, IsFamily, IsFound, IsRefused}
 use Rattle.lx_anchor.specs.Sharing.{AreEquations, CanServeAll, HasRoom, counted_pairs}
 use Rattle.lx_anchor.specs.declared.refusal.AnchorRefusal.{AnchorRefusal}
 use Rattle.lx_anchor.specs.Writings.{IsReady, counted_literals}
@@ -133,9 +134,9 @@ module _ (class : ClassTrees) (at n : ℕ) (t : Tree) (e : Entry) (there : slice
   pub none-by_network : ((nodes : AreTreeNodes t.nodes) → Agrees (anchored_network nodes.forest t e) → ⊥) → IsFound class at n e None
   none-by_network none = the-tree (λ s. Makes s e → ⊥) (λ makes. none makes.nodes makes.agrees)
 
-  module _ (lemmas : List (ℕ × Sym)) (are : AreLemmas t e lemmas) (new : Tree) (anchored : IsAnchoredTree t e new) where
+  module _ (lemmas : List (ℕ × Sym)) (are : AreLemmas t e lemmas) (new : Tree) (anchored : IsAnchored t e (Some new)) where
     makes : Makes t e
-    makes = record { lemmas = lemmas; are = are; nodes = well.nodes; agrees = anchored.agrees well.nodes }
+    makes = record { lemmas = lemmas; are = are; nodes = well.nodes; agrees = anchored.0.agrees well.nodes }
 
     pub found : (l : LexicalTree) → l.entry ≡ n → l.class ≡ class.class → l.number ≡ at + 1 → l.lemma ≡ e.lemma → l.coanchors ≡ lemmas → l.tree ≡ new → length new.sem ≢ 0 → IsFound class at n e (Some l)
     unfolding makes
@@ -148,21 +149,22 @@ module _ (class : ClassTrees) (at n : ℕ) (t : Tree) (e : Entry) (there : slice
             number = number ∙ (let next : at + 1 ≡ suc at = omega arith in next);
             lemma = lemma;
             coanchors = coanchors;
-            tree = subst (λ u. IsTreeOver (anchored_network well.nodes.forest t e) (anchored_tree well.nodes.forest t e) u) (sym tree) (anchored.over well.nodes);
+            tree = subst (λ u. IsTreeOver (anchored_network well.nodes.forest t e) (anchored_tree well.nodes.forest t e) u) (sym tree) (anchored.0.over well.nodes);
+            dense = subst IsDense (sym tree) anchored.1;
           },
           λ none. some (ap length (sym (ap (λ (u : Tree). u.sem) tree) ∙ none)),
           λ named. record {
-            well_formed = subst IsWellFormedTree (sym tree) (anchored.well_formed named);
-            named = subst HasNamedMarks (sym tree) (anchored.named named);
+            well_formed = subst IsWellFormedTree (sym tree) (anchored.0.well_formed named);
+            named = subst HasNamedMarks (sym tree) (anchored.0.named named);
             literal = λ none. some (ap length (sym (ap (λ (u : Tree). u.sem) tree) ∙ none));
-            coanchors = ap (map (λ (c : ℕ × Sym). c.0)) coanchors ∙ zip-numbers t e (co_leaves t) lemmas are.given ∙ sym (anchored.leaves named) ∙ ap (λ (u : Tree). marked COANCHOR (node_lists u.nodes)) (sym tree);
+            coanchors = ap (map (λ (c : ℕ × Sym). c.0)) coanchors ∙ zip-numbers t e (co_leaves t) lemmas are.given ∙ sym (anchored.0.leaves named) ∙ ap (λ (u : Tree). marked COANCHOR (node_lists u.nodes)) (sym tree);
           },
         )
 
     pub bare-pair : (lemma name : Sym) (number : ℕ) → length new.sem ≡ 0 → lemma ≡ e.lemma → name ≡ class.class → number ≡ at + 1 → IsBarePair class at e lemma name number
     bare-pair lemma name number none lemma-is name-is number-is =
         let empty : new.sem ≡ [] = no-items new.sem none in
-        let over = anchored.over well.nodes in
+        let over = anchored.0.over well.nodes in
         let written-empty = sym over.literals ∙ ap literals_of empty in
         let parts = append-empty (map (map_literal tree_term) (literals_of t.sem)) (map (map_literal entry_term) (literals_of e.sem)) (map-nil (map_literal over.written) _ written-empty) in
         record {

@@ -13,3 +13,6 @@ pub mod CoanchorLemmas
 pub mod RowLemmas
 pub mod AnchoringLemmas
 pub mod CarryingLemmas
+pub mod NumberingLemmas
+pub mod DenseLemmas
+pub mod RenamedTrees

@@ -14,6 +14,7 @@ use Rattle.td_canon.specs.declared.tree_set.ClassTrees.{ClassTrees}
 use Rattle.tg_grammar.specs.Grammars.{IsClassNamed}
 use Rattle.tg_grammar.specs.Marks.{marked, name_of, node_lists, value_of}
 use Rattle.lx_lexicon.specs.declared.entry.Entry.{Entry}
+use Rattle.tg_model.specs.DenseTrees.{IsDense}
 use Rattle.tg_model.specs.declared.lexical.LexicalTree.{LexicalTree}
 use Rattle.lx_anchor.specs.Networks.{anchored_network, anchored_tree}
 use Rattle.lx_anchor.specs.TreesOver.{IsTreeOver}
@@ -54,7 +55,8 @@ pub record Makes (t : Tree) (e : Entry) : Type 0 where
   pub nodes : AreTreeNodes t.nodes
   pub agrees : Agrees (anchored_network nodes.forest t e)
 
--- the lexical tree of the tree number k of a class and the entry number n, both counted from 0
+-- the lexical tree of the tree number k of a class and the entry number n, both counted from 0. Its variables are numbered by where they
+-- first stand
 pub record IsLexicalTree (class : Sym) (k : ℕ) (t : Tree) (n : ℕ) (e : Entry) (l : LexicalTree) : Type 0 where
   pub makes : Makes t e
   pub entry : l.entry ≡ n
@@ -63,6 +65,7 @@ pub record IsLexicalTree (class : Sym) (k : ℕ) (t : Tree) (n : ℕ) (e : Entry
   pub lemma : l.lemma ≡ e.lemma
   pub coanchors : l.coanchors ≡ makes.lemmas
   pub tree : IsTreeOver (anchored_network makes.nodes.forest t e) (anchored_tree makes.nodes.forest t e) l.tree
+  pub dense : IsDense l.tree
 
 -- tree number k of the class that is the family of entry number n
 pub record IsPair (classes : List ClassTrees) (es : List Entry) (n k : ℕ) (class : ClassTrees) (t : Tree) (e : Entry) : Type 0 where

@@ -6,3 +6,4 @@ pub mod Counts
 pub mod Sharing
 pub mod Writings
 pub mod Rows
+pub mod Numberings

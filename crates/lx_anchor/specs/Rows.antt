@@ -13,6 +13,7 @@ use Rattle.tg_grammar.specs.Marks.{marked, node_lists}
 use Rattle.tg_grammar.specs.NamedMarks.{HasNamedMarks, HaveNamedMarks}
 use Rattle.tg_grammar.specs.Shapes.{IsWellFormedTree}
 use Rattle.lx_lexicon.specs.declared.entry.Entry.{Entry}
+use Rattle.tg_model.specs.DenseTrees.{IsDense}
 use Rattle.tg_model.specs.LexicalTrees.{AreLexical, IsLexical}
 use Rattle.tg_model.specs.declared.lexical.LexicalTree.{LexicalTree}
 use Rattle.lx_anchor.specs.Anchoring.{HasLiteral, InOrder, IsBare, IsLexicalTree, IsOfPair, IsPair, IsSooner, Makes, co_leaves, place_of}
@@ -29,10 +30,10 @@ pub record IsAnchoredTree (t : Tree) (e : Entry) (new : Tree) : Type 0 where
   pub named : HasNamedMarks t → HasNamedMarks new
   pub leaves : HasNamedMarks t → marked COANCHOR (node_lists new.nodes) ≡ co_leaves t
 
--- the tree over the network, or none where that doesn't agree
+-- the tree over the network with its variables numbered densely, or none where the network doesn't agree
 abbrev pub IsAnchored : Tree → Entry → Option Tree → Type 0
 IsAnchored t e None = (nodes : AreTreeNodes t.nodes) → Agrees (anchored_network nodes.forest t e) → ⊥
-IsAnchored t e (Some new) = IsAnchoredTree t e new
+IsAnchored t e (Some new) = IsAnchoredTree t e new × IsDense new
 
 -- the lexical tree of a tree of a class and an entry, or none where they make none
 abbrev pub IsFound : ClassTrees → ℕ → ℕ → Entry → Option LexicalTree → Type 0

@@ -14,6 +14,7 @@ ghost use Rattle.lx_anchor.specs.Sharing.{CanServe, CanServeAll, HasRoom};
 
 use crate::coanchors::lemmas_of;
 use crate::counts::{count_grammar, count_lexicon, most_features};
+use crate::numbering::Numbering;
 use crate::refusal::AnchorRefusal;
 use crate::sharing::share_all;
 use crate::writing::joint_tree;
@@ -64,6 +65,7 @@ fn store_for(alloc: Global, first: u32, lexicon: &Lexicon) -> Result<Store, Memo
 fn joined(
     alloc: Global,
     store: &mut Store,
+    numbering: &mut Numbering,
     first: u32,
     tree: &Tree,
     entry: &Entry,
@@ -81,7 +83,8 @@ fn joined(
     }
     // What a store accepted agrees.
     let _agrees = store.mark();
-    Ok(Some(joint_tree(alloc, store, first, tree, entry, anchor)?))
+    let joint = joint_tree(alloc, store, first, tree, entry, anchor)?;
+    Ok(Some(numbering.tree(alloc, &joint)?))
 }
 
 /// The tree with what the entry adds, or `None` where the network of the two doesn't agree. The store
@@ -89,6 +92,7 @@ fn joined(
 fn anchored(
     alloc: Global,
     store: &mut Store,
+    numbering: &mut Numbering,
     first: u32,
     tree: &Tree,
     entry: &Entry,
@@ -99,7 +103,7 @@ fn anchored(
     ensures same { OnOk result (store.new ≡ store.old) }
 {
     let before = store.mark();
-    let found = joined(alloc, store, first, tree, entry)?;
+    let found = joined(alloc, store, numbering, first, tree, entry)?;
     store.undo(before);
     Ok(found)
 }
@@ -109,6 +113,7 @@ fn anchored(
 fn lexical_tree(
     alloc: Global,
     store: &mut Store,
+    numbering: &mut Numbering,
     first: u32,
     class: &ClassTrees,
     at: usize,
@@ -127,7 +132,7 @@ fn lexical_tree(
     let Some(coanchors) = lemmas_of(alloc, tree, entry)? else {
         return Ok(None);
     };
-    let Some(joint) = anchored(alloc, store, first, tree, entry)? else {
+    let Some(joint) = anchored(alloc, store, numbering, first, tree, entry)? else {
         return Ok(None);
     };
     let tree_number = at as u32 + 1;
@@ -152,6 +157,7 @@ fn lexical_tree(
 fn anchor_family(
     alloc: Global,
     store: &mut Store,
+    numbering: &mut Numbering,
     first: u32,
     grammar: &Grammar,
     lexicon: &Lexicon,
@@ -174,7 +180,7 @@ fn anchor_family(
         return Err(AnchorRefusal::Memory);
     };
     'trees: for at in 0..class.trees.len() {
-        let found = lexical_tree(alloc, store, first, class, at, entry_number, entry)?;
+        let found = lexical_tree(alloc, store, numbering, first, class, at, entry_number, entry)?;
         if let Some(lexical) = found {
             trees.push(lexical)?;
         }
@@ -186,6 +192,7 @@ fn anchor_family(
 fn anchor_entry(
     alloc: Global,
     store: &mut Store,
+    numbering: &mut Numbering,
     first: u32,
     grammar: &Grammar,
     lexicon: &Lexicon,
@@ -201,7 +208,7 @@ fn anchor_entry(
     ensures err { IfErr result (IsAnchorRefusal grammar.now lexicon.now) }
 {
     match grammar.class(lexicon.get(number).family) {
-        Some(class) => anchor_family(alloc, store, first, grammar, lexicon, number, class, trees),
+        Some(class) => anchor_family(alloc, store, numbering, first, grammar, lexicon, number, class, trees),
         None => Ok(()),
     }
 }
@@ -222,10 +229,11 @@ pub fn anchor_all(
 {
     let first = count_grammar(grammar)?;
     let mut store = store_for(alloc, first, lexicon)?;
+    let mut numbering = Numbering::new(alloc);
     let mut trees = Items::new(alloc);
     'entries: for number in 0..lexicon.len() {
         anchor_entry(
-            alloc, &mut store, first, grammar, lexicon, number, &mut trees,
+            alloc, &mut store, &mut numbering, first, grammar, lexicon, number, &mut trees,
         )?;
     }
     Ok(trees)

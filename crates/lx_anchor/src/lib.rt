@@ -41,6 +41,7 @@ mod anchoring;
 mod coanchors;
 mod counts;
 pub mod laws;
+mod numbering;
 mod refusal;
 mod sharing;
 mod writing;

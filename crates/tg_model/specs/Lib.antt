@@ -1,3 +1,4 @@
+pub mod DenseTrees
 pub mod LexicalTrees
 pub mod Instances
 pub mod Selections

@@ -1,6 +1,7 @@
 use Rattle.std.proofs.Common.{rules}
 use Rattle.lx_anchor.proofs.AnchoringLemmas.{anchor-within, is-ready}
 use Rattle.lx_anchor.proofs.Joining.{clash-refuses}
+use Rattle.lx_anchor.proofs.RenamedTrees.{anchored-numbered}
 use Rattle.lx_anchor.proofs.Written.{anchored-tree}
 use Rattle.lx_anchor.proofs.anchoring.joined.Goals as goal
 
@@ -17,5 +18,7 @@ joint_tree-requires c =
 
 pub returns-clause-tree : goal.returns-clause-tree
 returns-clause-tree c =
-    anchored-tree c.args.tree.now c.args.entry.now c.args.first c.anchor-anchor.result c.requires.well_formed c.anchor-anchor.ensures c.requires.room.tree c.share_all.new.store.accepted c.if-not-share_all.ensures.shared
-    c.mark-agrees.ensures.agrees c.in_ok-joint_tree.field-0 c.in_ok-joint_tree.ensures
+    anchored-numbered c.args.tree.now c.args.entry.now _ _
+    (anchored-tree c.args.tree.now c.args.entry.now c.args.first c.anchor-anchor.result c.requires.well_formed c.anchor-anchor.ensures c.requires.room.tree c.share_all.new.store.accepted c.if-not-share_all.ensures.shared
+    c.mark-agrees.ensures.agrees c.in_ok-joint.joint c.in_ok-joint.ensures)
+    c.in_ok-tree.ensures

@@ -77,9 +77,9 @@ dense-from f ms (Var u ∷ ts) n [] after v w e lt =
     inl (omega (arith, is, number, few, lt))
 dense-from f ms (Var u ∷ ts) n (b ∷ before) after v w e lt =
     elim (dense-from f (meet ms (variable u)) ts n before after v w (same_tail (Var (f u)) b (map (rename_term f) ts) (before ++ Var v ∷ after) e) lt) [
-    | inl h ↦ by (is_met u ms) refl h
-    | inr i ↦ inr (inr i)
-  ]
+      | inl h ↦ by (is_met u ms) refl h
+      | inr i ↦ inr (inr i)
+    ]
   where
     number : f u ≡ place u ms
     number = Numbers-place ms (meet_all (meet ms (variable u)) (map term_of ts)) u f (BeginsWith-meet_all (meet ms (variable u)) (map term_of ts)) (IsAmong-meet_all ms (map term_of (Var u ∷ ts)) u (inl refl)) n

@@ -88,8 +88,8 @@ kept-push places met v n kept room new is w k at = elim (pushed-at met v k w at)
       let there : slice_get places w ≡ Some k = kept w k h in
       let within : w < length places = slice_get_within places w k there in
       let other : w ≢ v = λ e.
-          let here = is_met-IsAmong v met (IsAmong-slice_get met k v (subst (λ z. slice_get met k ≡ Some z) e h)) in
-          absurd (false≢true (sym (not_met places met kept v new) ∙ here)) in
+      let here = is_met-IsAmong v met (IsAmong-slice_get met k v (subst (λ z. slice_get met k ≡ Some z) e h)) in
+      absurd (false≢true (sym (not_met places met kept v new) ∙ here)) in
       let long : w < length (set places v n) = omega (arith, length-set places v n, within) in
       slice_get-get_or (set places v n) w 0 long ∙ ap Some (get_or-set_other places v w n 0 other ∙ get_or_from_slice_get places w k 0 there)
   | inr h ↦

@@ -201,13 +201,13 @@ module _ (f : ℕ → ℕ) where
         listed = subst IsRising (attributes-renamed bag) h.listed;
         pairs = λ a v. (
           λ i.
-            let r = IsAmong-map_from renamed_pair (pairs_of bag) (a, v) (subst (λ ps. IsAmong ps (a, v)) (pairs-renamed bag) i) in
-            let k = (h.pairs r.0.0 r.0.1).0 r.1 in
-            (k.0, subst (λ b. HasValue N s b k.0) (sym (ap (λ (q : ℕ × net.Term ℕ). q.0) r.2)) k.1, ap (λ (q : ℕ × net.Term ℕ). q.1) r.2 ∙ ap F k.2),
+              let r = IsAmong-map_from renamed_pair (pairs_of bag) (a, v) (subst (λ ps. IsAmong ps (a, v)) (pairs-renamed bag) i) in
+              let k = (h.pairs r.0.0 r.0.1).0 r.1 in
+              (k.0, subst (λ b. HasValue N s b k.0) (sym (ap (λ (q : ℕ × net.Term ℕ). q.0) r.2)) k.1, ap (λ (q : ℕ × net.Term ℕ). q.1) r.2 ∙ ap F k.2),
           λ k.
-            let there = (h.pairs a (written k.0)).1 (k.0, k.1, refl) in
-            subst (λ ps. IsAmong ps (a, v)) (sym (pairs-renamed bag))
-            (subst (λ z. IsAmong (map renamed_pair (pairs_of bag)) (a, z)) (sym k.2) (IsAmong-map renamed_pair (pairs_of bag) (a, written k.0) there)),
+              let there = (h.pairs a (written k.0)).1 (k.0, k.1, refl) in
+              subst (λ ps. IsAmong ps (a, v)) (sym (pairs-renamed bag))
+              (subst (λ z. IsAmong (map renamed_pair (pairs_of bag)) (a, z)) (sym k.2) (IsAmong-map renamed_pair (pairs_of bag) (a, written k.0) there)),
         );
       }
 

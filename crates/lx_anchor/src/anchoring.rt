@@ -180,7 +180,16 @@ fn anchor_family(
         return Err(AnchorRefusal::Memory);
     };
     'trees: for at in 0..class.trees.len() {
-        let found = lexical_tree(alloc, store, numbering, first, class, at, entry_number, entry)?;
+        let found = lexical_tree(
+            alloc,
+            store,
+            numbering,
+            first,
+            class,
+            at,
+            entry_number,
+            entry,
+        )?;
         if let Some(lexical) = found {
             trees.push(lexical)?;
         }
@@ -208,7 +217,9 @@ fn anchor_entry(
     ensures err { IfErr result (IsAnchorRefusal grammar.now lexicon.now) }
 {
     match grammar.class(lexicon.get(number).family) {
-        Some(class) => anchor_family(alloc, store, numbering, first, grammar, lexicon, number, class, trees),
+        Some(class) => anchor_family(
+            alloc, store, numbering, first, grammar, lexicon, number, class, trees,
+        ),
         None => Ok(()),
     }
 }
@@ -233,7 +244,14 @@ pub fn anchor_all(
     let mut trees = Items::new(alloc);
     'entries: for number in 0..lexicon.len() {
         anchor_entry(
-            alloc, &mut store, &mut numbering, first, grammar, lexicon, number, &mut trees,
+            alloc,
+            &mut store,
+            &mut numbering,
+            first,
+            grammar,
+            lexicon,
+            number,
+            &mut trees,
         )?;
     }
     Ok(trees)

@@ -15,7 +15,7 @@ pairs-preserved c =
     c.in_ok-_added.ensures.listed
     in (
       numbered-push bag_terms (λ (f : ℕ → ℕ) (p : Sym × Term). (p.0, rename_term f p.1)) c.args.bag.now c.pairs.place pair (pair.1 ∷ []) c.args.self.now c.pairs.self c.term.new.self c.pairs.numbered c.add.new.self (pair.0, c.in_ok-value.value)
-      c.at-pair.ensures.pair (λ ys. map-append (λ (p : Sym × Term). p.1) ys (pair ∷ [])) c.pairs.invariant.0
-      (numbered-beside pair.0 c.pairs.self c.term.new.self (pair.1 ∷ []) (λ f. rename_term f pair.1) c.in_ok-value.value c.in_ok-value.ensures) added,
+          c.at-pair.ensures.pair (λ ys. map-append (λ (p : Sym × Term). p.1) ys (pair ∷ [])) c.pairs.invariant.0
+          (numbered-beside pair.0 c.pairs.self c.term.new.self (pair.1 ∷ []) (λ f. rename_term f pair.1) c.in_ok-value.value c.in_ok-value.ensures) added,
       attributes-push c.args.bag.now c.pairs.place pair c.pairs.numbered c.add.new.self c.in_ok-value.value c.at-pair.ensures.pair c.pairs.invariant.1 added,
     )

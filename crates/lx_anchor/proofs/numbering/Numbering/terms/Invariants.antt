@@ -1,7 +1,5 @@
 use Rattle.std.proofs.Common.{map, take}
-
 use Rattle.td_canon.specs.Renaming.{rename_term}
-
 use Rattle.lx_anchor.specs.Numberings.{IsNumbered}
 use Rattle.lx_anchor.proofs.numbering.Numbering.terms.Given as goal
 

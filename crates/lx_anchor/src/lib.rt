@@ -15,7 +15,8 @@
 //!   lexical tree is the first that has no literal (`IsFirstBare`).
 //! - `specs/TreesOver` says of a tree that it has the canonical bags of a network (`IsTreeOver`): at
 //!   each slot each attribute once, with the name that its value is linked with, or else with one
-//!   variable for each class of linked values.
+//!   variable for each class of linked values. Its variables are numbered 0, 1, .. by where they first
+//!   stand (`IsDense` of `tg_model`), so no number of the grammar's or of the store's shows in it.
 //!
 //! # What the crates above can rely on
 //!

@@ -5,7 +5,8 @@
 //! - A [`LexicalTree`] is a tree of a family with the lemma of an entry at its anchor, and those of
 //!   the entry's co-anchors at its co-anchors. `specs/LexicalTrees` says what each one keeps: its tree
 //!   is well formed and its marks are names, it has a literal, and just its leaves of mark `coanchor`
-//!   have lemmas, in preorder.
+//!   have lemmas, in preorder. `specs/DenseTrees` says of a tree that its variables are numbered 0, 1, ..
+//!   by where they first stand.
 //! - An [`Instance`] is a lexical tree, by its number, with a place of the input for each of its
 //!   literals. `specs/Instances` says which ones there are (`IsInstance`): all places are different,
 //!   each literal has as many arguments as the one at its place, and the network of the tree, with

@@ -310,9 +310,14 @@ module _ (Q : Sym → Type 0) (cat : Q CAT) where
       let a1 = behind (Row SpellsCall) one_name (in_rows SpellsCall one_name in_call) _ imports ts t1 x h.1.1 in
       let a2 = behind (Row (Named _)) one_name (in_variables _) _ exports t1 t2 y a1.1 in
       let a3 = behind (Row (Named _)) one_name (in_variables _) _ declares t2 t3 z a2.1 in
-      let a4 = in_enclosed SpellsBody body_names in_body _ _ body t3 rest b a3.1 in
-      ((h.1.0, Each-append Q (imports ++ exports ++ declares) (body_names body)
-      (Each-append Q (imports ++ exports) declares (Each-append Q imports exports (each_one imports a1.0) (each_one exports a2.0)) (each_one declares a3.0)) a4.0), a4.1)
+      let a4 = in_enclosed SpellsBody body_names in_body _ _ body t3 rest b a3.1 in (
+        (
+          h.1.0,
+          Each-append Q (imports ++ exports ++ declares) (body_names body)
+              (Each-append Q (imports ++ exports) declares (Each-append Q imports exports (each_one imports a1.0) (each_one exports a2.0)) (each_one declares a3.0)) a4.0,
+        ),
+        a4.1,
+      )
 
   in_domain : Keeps SpellsDomain (if_some (λ names. names))
   in_domain _ _ _ (any_value i) h = (tt, h.1)

@@ -161,4 +161,3 @@ real_name texts l r top = by r.cut r.kind_is r.named r.writes
     by Str e n w = record { text = r.text; names = n; inside = w.1; short = r.short; utf8 = r.utf8 }
     by Var e n w = absurd (omega (arith, top, ap kind_number e))
     by Punct e n w = absurd (omega (arith, top, ap kind_number e, ltb-true (kind_number (sign_kind r.text)) 24 (sign_low r.text w.1)))
-

@@ -67,8 +67,8 @@ alike_numbered {A} {B} R n (tree a kids more) (tree b others rest) h at =
           (λ i k x y e f g. at (suc i) k x y (omega arith) (slice_get-append_left (labels kids) (labels more) i x f) (slice_get-append_left (labels others) (labels rest) i y g)),
       alike_numbered R (suc n + size others) more rest h.2
           (λ i k x y e f g.
-              at (suc (length (labels kids) + i)) k x y (omega arith) (slice_get-append_right (labels kids) (labels more) i ∙ f)
-                  (ap (λ m. slice_get (labels others ++ labels rest) (m + i)) (sym same_length) ∙ slice_get-append_right (labels others) (labels rest) i ∙ g)),
+          at (suc (length (labels kids) + i)) k x y (omega arith) (slice_get-append_right (labels kids) (labels more) i ∙ f)
+          (ap (λ m. slice_get (labels others ++ labels rest) (m + i)) (sym same_length) ∙ slice_get-append_right (labels others) (labels rest) i ∙ g)),
     )
 
 module _ {V S W R : Type 0} (text : ℕ → List ℕ) (N : List (Assertion V S)) (M : List (Assertion W R)) (there : Term V → Term W)

@@ -1,6 +1,5 @@
 -- A tree whose terms were numbered by first meeting is dense, and no two of its variables were made one.
 use Rattle.std.specs.Prelude.{◌≡◌, ℕ, suc, ◌+◌, ◌-◌, ◌<◌, ◌≤◌, ◌⊎◌, List, [], ◌∷◌, ◌++◌, Bool, true, false, Option, Some, None, map, length, slice_get, if◌then◌else◌, refl}
-use Rattle.std.specs.List.{position_or_len}
 use Rattle.std.proofs.Common.{inl, inr, ap, ap₂, subst, sym, ◌∙◌, arith}
 use Rattle.std.proofs.lemmas.Bool.{false≢true}
 use Rattle.std.proofs.lemmas.List.{map-append, length_push}
@@ -10,16 +9,15 @@ use Rattle.gr_base.proofs.ListLemmas.{NoneTwice-push, one_place, same_head, same
 use Rattle.gr_terms.specs.Networks as net
 use Rattle.gr_terms.specs.Networks.{name, variable}
 use Rattle.gr_terms.specs.Views.{term_of}
-use Rattle.gr_terms.specs.declared.Literal.{Literal}
 use Rattle.gr_terms.specs.declared.Term.{Term}
 use Rattle.gr_terms.specs.declared.Term.TheVariants.{Const, Var}
 use Rattle.td_tree.specs.Trees.{BagPairs}
 use Rattle.td_tree.specs.declared.Tree.{Tree}
 use Rattle.td_tree.specs.declared.TreeNode.{TreeNode}
 use Rattle.td_canon.specs.Renaming.{rename_bag, rename_literal, rename_node, rename_term, rename_tree}
-use Rattle.td_canon.specs.Writing.{BeginsWith, meet, meet_all}
-use Rattle.td_canon.proofs.MeetingLemmas.{BeginsWith-meet_all, BeginsWith-same, IsAmong-meet_all, is_met, is_met-IsAmong, meet-new, meet-there, place, place-absent, stands_in}
-use Rattle.tg_model.specs.DenseTrees.{IsDense, bag_terms, literal_terms, node_terms, tree_terms}
+use Rattle.td_canon.specs.Writing.{meet, meet_all}
+use Rattle.td_canon.proofs.MeetingLemmas.{BeginsWith-meet_all, IsAmong-meet_all, is_met, is_met-IsAmong, meet-new, meet-there, place, place-absent, stands_in}
+use Rattle.tg_model.specs.DenseTrees.{bag_terms, literal_terms, node_terms, tree_terms}
 use Rattle.lx_anchor.specs.Numberings.{IsNumbered, IsNumberedTree, Numbers}
 use Rattle.lx_anchor.proofs.NumberingLemmas.{Numbers-place}
 

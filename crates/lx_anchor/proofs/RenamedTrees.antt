@@ -1,5 +1,5 @@
 -- A tree over a network stays so when its variables are renamed, no two alike, and it keeps its shape, its names and its marks.
-use Rattle.std.specs.Prelude.{◌≡◌, ℕ, suc, ◌+◌, ◌≤◌, List, [], ◌∷◌, ◌++◌, map, length, Bool, true, false, Option, Some, None, ◌↔◌, ◌==◌, if◌then◌else◌, refl}
+use Rattle.std.specs.Prelude.{◌≡◌, ℕ, suc, ◌+◌, ◌≤◌, List, [], ◌∷◌, ◌++◌, map, length, Bool, true, false, Option, Some, None, ◌==◌, if◌then◌else◌, refl}
 use Rattle.std.specs.List.{AllZip}
 use Rattle.std.proofs.Common.{ap, ap₂, subst, sym, ◌∙◌}
 use Rattle.std.proofs.lemmas.List.{map-append}
@@ -7,7 +7,6 @@ use Rattle.gr_base.specs.Lists.{IsAmong, IsRising, Each}
 use Rattle.gr_base.specs.Forests.{Forest, empty, tree, size, map_forest, AreAlike, IsOneTree}
 use Rattle.gr_base.proofs.ListLemmas.{IsAmong-map, IsAmong-map_from}
 use Rattle.gr_terms.specs.BagViews.{pairs_of}
-use Rattle.gr_terms.specs.Bags.{IsListed}
 use Rattle.gr_terms.specs.Canonical as canonical
 use Rattle.gr_terms.specs.Canonical.{Decorated, IsMet, Node, map_literal}
 use Rattle.gr_terms.specs.Constants.{CAT, COANCHOR, MARK}
@@ -24,8 +23,8 @@ use Rattle.td_tree.specs.TreeViews.{Pairs, lists_of}
 use Rattle.td_tree.specs.declared.Tree.{Tree}
 use Rattle.td_tree.specs.declared.TreeNode.{TreeNode}
 use Rattle.td_canon.specs.Renaming.{rename_bag, rename_literal, rename_node, rename_term, rename_tree}
-use Rattle.tg_grammar.specs.Marks.{is_number, marked, name_of, node_lists, value_of}
-use Rattle.tg_grammar.specs.NamedMarks.{HasNamedMarks, IsNamedMark}
+use Rattle.tg_grammar.specs.Marks.{is_number, name_of, node_lists, value_of}
+use Rattle.tg_grammar.specs.NamedMarks.{IsNamedMark}
 use Rattle.tg_grammar.specs.Shapes.{IsWellFormedTree}
 use Rattle.lx_lexicon.specs.declared.entry.Entry.{Entry}
 use Rattle.lx_anchor.specs.Numberings.{IsNumberedTree}

@@ -256,7 +256,7 @@ fn interfaces_and_features_of_the_anchor_are_joined(rt: HostRuntime) -> Result<(
     const CASES: [(&str, &str); 4] = [
         (
             "entry john noun { iface [i=?x] anchor [num=sg] sem { john(?x) } }",
-            "0 noun 1 john (cat=np;mark=anchor;/idx=?0;num=sg;) i=?0; ?9:john,?0\n",
+            "0 noun 1 john (cat=np;mark=anchor;/idx=?0;num=sg;) i=?0; ?1:john,?0\n",
         ),
         (
             "entry john noun { iface [i=?x] anchor [idx=p] sem { ?x:john() } }",
@@ -282,7 +282,7 @@ fn co_anchors_are_the_same_set_of_names(rt: HostRuntime) -> Result<(), Fail> {
         entry gaze verb { anchor [num=pl] sem { gaze() } }
         entry call verb { coanchor p = up coanchor i = on sem { call() } }";
     let wanted =
-        "0 verb 1 look 2=up (cat=s;/) (cat=v;mark=anchor;/) (cat=q;mark=coanchor;name=p;/)  ?8:look\n1 verb 2 gaze (cat=s;/) (cat=v;mark=anchor;/num=pl;)  ?8:gaze\n";
+        "0 verb 1 look 2=up (cat=s;/) (cat=v;mark=anchor;/) (cat=q;mark=coanchor;name=p;/)  ?0:look\n1 verb 2 gaze (cat=s;/) (cat=v;mark=anchor;/num=pl;)  ?0:gaze\n";
     let found = anchored(alloc, entries)?;
     assert_eq!(rt; found.as_str(), wanted);
     Ok(())

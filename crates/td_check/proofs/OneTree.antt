@@ -2,6 +2,7 @@
 use Rattle.std.specs.Prelude.{◌≡◌, ℕ, suc, List, [], ◌∷◌, length, slice_get, ◌⊎◌, Some, refl}
 use Rattle.std.specs.List.{AllZip}
 use Rattle.std.proofs.Common.{inl, inr, ap, sym, ◌∙◌, subst, arith}
+use Rattle.std.proofs.lemmas.List.{length-map}
 use Rattle.std.proofs.lemmas.Option.{same_Some}
 use Rattle.gr_base.proofs.Zips.{labels-alike, AllZip-weaker}
 use Rattle.gr_base.specs.Decisions.{IsDecided}
@@ -9,7 +10,7 @@ use Rattle.gr_base.specs.Forests.{labels, numbered, AreAlike}
 use Rattle.gr_base.specs.Lists.{IsAmong, gathered}
 use Rattle.gr_base.proofs.Deciding.{decided_both, decided_by, decided_either, decided_number, decided_some}
 use Rattle.gr_base.proofs.ForestLemmas.{AreAlike-weaker}
-use Rattle.gr_base.proofs.ListLemmas.{IsAmong-append}
+use Rattle.gr_base.proofs.ListLemmas.{IsAmong-append, slice_get-mapped}
 use Rattle.gr_terms.specs.Canonical.{Node, node_slots, Decorated, Literal, literal_terms, Label, Pairs, IsMet, IsCanonicalForm, tree_slots}
 use Rattle.gr_terms.specs.Networks.{Term, name, Assertion, entry, equate, link, AreLinked, AreLinkedSlots, same, back, next}
 use Rattle.gr_terms.proofs.Agreeing.{decided_linked, decided_slots}
@@ -19,7 +20,6 @@ use Rattle.td_tree.proofs.SameForms.{alike_map, alike_numbered, carried_form, ga
 use Rattle.td_tree.proofs.TreeNetworkLemmas.{list_of, IsPairAt, value_pair, pair_value, same_terms}
 use Rattle.td_check.specs.ModelTrees.{AreLists, of_node, of_interface, AreInLiterals, of_literal, StandsFor, in_list, in_literal, IsTreeOf}
 use Rattle.td_check.proofs.OneForm.{stands_met}
-use Rattle.td_check.proofs.Telling.{at_map, length_map}
 
 module _ (N : List (Assertion ℕ ℕ)) (t : Decorated ℕ (Term ℕ)) (u : Decorated (List (ℕ × Term ℕ)) (Term ℕ)) (is : IsTreeOf N t u)
     (once : (s : TreeSlot) (a : ℕ) (x y : Term ℕ) → IsPairAt u s (a, x) → IsPairAt u s (a, y) → x ≡ y) where
@@ -60,10 +60,10 @@ module _ (N : List (Assertion ℕ ℕ)) (t : Decorated ℕ (Term ℕ)) (u : Deco
   AreBeside l k = AllZip (AreInLiterals t u) (literal_terms l) (literal_terms k)
 
   literals_placed : AllZip AreBeside t.literals u.literals
-  literals_placed = zip_at_places AreBeside t.literals u.literals (sym (length_map count t.literals) ∙ ap length is.literals ∙ length_map count u.literals)
+  literals_placed = zip_at_places AreBeside t.literals u.literals (sym (length-map t.literals count) ∙ ap length is.literals ∙ length-map u.literals count)
       (λ i l k e g.
       let arguments : length l.args ≡ length k.args =
-      same_Some (length l.args) (length k.args) (sym (at_map count t.literals i l e) ∙ ap (λ z. slice_get z i) is.literals ∙ at_map count u.literals i k g) in
+      same_Some (length l.args) (length k.args) (sym (slice_get-mapped count t.literals i l e) ∙ ap (λ z. slice_get z i) is.literals ∙ slice_get-mapped count u.literals i k g) in
       zip_at_places (AreInLiterals t u) (literal_terms l) (literal_terms k) (ap (λ n. suc (suc n)) arguments) (λ j x w p q. of_literal l k (i, e, g) (j, p, q)))
     where
       count : Literal (Term ℕ) → ℕ

@@ -6,7 +6,7 @@ use Rattle.std.proofs.lemmas.Bool.{false≢true}
 use Rattle.std.proofs.lemmas.List.{map-append, get_or-set_same, get_or-set_other, length-set}
 use Rattle.std.proofs.lemmas.Option.{none-some, same_Some, slice_get_within, get_or_from_slice_get, slice_get-get_or}
 use Rattle.gr_base.specs.Lists.{Each, IsAmong, gathered}
-use Rattle.gr_base.proofs.ListLemmas.{Each-map, Each-map_from, IsAmong-slice_get, slice_get-append_left}
+use Rattle.gr_base.proofs.ListLemmas.{Each-map, Each-map_from, IsAmong-slice_get, slice_get-append_left, take-one_more}
 use Rattle.gr_terms.specs.Bags.{HasAttribute, IsListed, Puts}
 use Rattle.gr_terms.specs.Networks.{variable}
 use Rattle.gr_terms.specs.Views.{term_of}
@@ -14,7 +14,6 @@ use Rattle.gr_terms.specs.declared.Sym.{Sym}
 use Rattle.gr_terms.specs.declared.Term.{Term}
 use Rattle.gr_terms.specs.declared.Term.TheVariants.{Const, Var}
 use Rattle.gr_terms.proofs.BagLemmas.{IsListed-before, LacksAttribute-lower, Puts-end}
-use Rattle.gr_feats.proofs.LoadLemmas.{first_items}
 use Rattle.td_tree.specs.Trees.{BagPairs}
 use Rattle.td_canon.specs.Renaming.{rename_term}
 use Rattle.td_canon.specs.Writing.{BeginsWith, meet, meet_all}
@@ -139,7 +138,7 @@ pub numbered-push : {A B : Type 0} (T : List A → List Term) (g : (ℕ → ℕ)
     → slice_get xs k ≡ Some x → ((ys : List A) → T (ys ++ x ∷ []) ≡ T ys ++ us) → IsNumbered old mid (T (take k xs)) (λ f. map (g f) (take k xs)) out → IsNumbered mid new us (λ f. g f x) y → later ≡ out ++ y ∷ []
     → IsNumbered old new (T (take (k + 1) xs)) (λ f. map (g f) (take (k + 1) xs)) later
 numbered-push T g xs k x us old mid new out later y at more h one e =
-    let upto : take (k + 1) xs ≡ take k xs ++ x ∷ [] = first_items xs k x at in
+    let upto : take (k + 1) xs ≡ take k xs ++ x ∷ [] = take-one_more xs k x at in
     record {
       met = met-both old mid new (T (take k xs)) us h.met one.met ∙ ap (λ ts. meet_all old (map term_of ts)) (sym (ap T upto ∙ more (take k xs)));
       written = λ f n.
@@ -188,7 +187,7 @@ attributes-push bag k x old new value at same e =
     ∙ map-append (λ (p : Sym × Term). p.0) old ((x.0, value) ∷ [])
     ∙ ap (λ ss. ss ++ x.0 ∷ []) same
     ∙ sym (map-append (λ (p : Sym × Term). p.0) (take k bag) (x ∷ []))
-    ∙ ap attributes (sym (first_items bag k x at))
+    ∙ ap attributes (sym (take-one_more bag k x at))
 
 -- beside what has no variable
 pub numbered-beside : {A X : Type 0} (a : X) (old new : List ℕ) (terms : List Term) (w : (ℕ → ℕ) → A) (out : A) → IsNumbered old new terms w out → IsNumbered {A = X × A} old new terms (λ f. (a, w f)) (a, out)
